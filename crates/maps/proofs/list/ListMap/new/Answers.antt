@@ -1,0 +1,25 @@
+use mathlib.Core.Logic.{inl, inr, ⊎-elim}
+use mathlib.Core.Path.{_≡_}
+use native.Mathlib.Omega.{arith}
+use Rattle.std.specs.Of.Vec.{vec-len}
+use Rattle.maps.proofs.Founding.{founding-count, founding-ok}
+use Rattle.maps.proofs.Networks.{bare-lawful}
+use Rattle.maps.proofs.Tables.{row-of-same}
+use Rattle.maps.proofs.list.ListMap.new.Needs as need
+
+pub returns-then-places-lt1 : need.returns-then-places-lt1
+returns-then-places-lt1 c = founding-count (c .args .places) (⊎-elim inl (λ h. inr (h .1)) (c .then-places-lt1 .either))
+
+pub ghost-result : need.ghost-result
+ghost-result c =
+    let rows = c .in-Ok .ensures tt .exact (λ y e. e) in let none = c .in-Ok-with-capacity .ensures tt .made in
+    let long : vec-len (c .in-Ok .rows) ≡ c .args .places = c .in-Ok .ensures tt .made .1 in (
+      rw (none .0) (∣ bare-lawful (vec-len (c .in-Ok .rows)) (omega arith) (omega arith) ∣₁),
+      (λ p. rw (rows, none .0) (row-of-same (c .args .places) (c .empty .result) p (c .empty .ensures)), (omega arith, (omega arith, tt))),
+    )
+
+pub returns : need.returns
+returns c =
+    let long : vec-len (c .in-Ok .rows) ≡ c .args .places = c .in-Ok .ensures tt .made .1 in
+    let none = c .in-Ok-with-capacity .ensures tt .made in
+    rw (long, none .0) (founding-ok (c .args .places) (omega arith) (omega arith))

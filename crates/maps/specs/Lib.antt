@@ -1,0 +1,10 @@
+pub mod Refusals
+pub mod Rows
+pub mod Tables
+pub mod Members
+pub mod Networks
+pub mod ListMaps
+pub mod Signs
+pub mod Grids
+pub mod GridMaps
+pub mod AnyMaps

@@ -1,0 +1,21 @@
+mod any;
+mod connection;
+mod grid;
+mod list;
+mod refusal;
+mod row;
+mod sign;
+
+pub use any::AnyFloorMap;
+pub use any::AnyMap;
+pub use connection::Connection;
+pub use grid::GridMap;
+pub use grid::methods::GridFloorMap;
+pub use list::ListMap;
+pub use list::methods::ListFloorMap;
+pub use refusal::MapError;
+pub use refusal::MapRefusal;
+pub use refusal::MapRefusalDebug;
+pub use refusal::MapRefusalPartialEq;
+pub use sign::Sign;
+pub use sign::read_sign;
