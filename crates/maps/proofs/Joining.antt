@@ -40,7 +40,7 @@ module _ (n : Network) (c : Connection) where
 
   pub fit-first : joining n c ≡ Ok (with-connection n c) → Fit n one other
   fit-first h =
-      let tests = passed-from-ok n c h in
+      let tests = passed-from-ok n c _ h in
       record {
         on = leb-false (n .places) one (or-parts _ _ (tests .on) .0);
         apart = eqb-false one other (or-parts _ _ (tests .new) .0);
@@ -50,7 +50,7 @@ module _ (n : Network) (c : Connection) where
 
   pub fit-second : joining n c ≡ Ok (with-connection n c) → Fit n other one
   fit-second h =
-      let tests = passed-from-ok n c h in let first = fit-first h in
+      let tests = passed-from-ok n c _ h in let first = fit-first h in
       record {
         on = leb-false (n .places) other (or-parts _ _ (tests .on) .1);
         apart = λ e. first .apart (sym e);
@@ -60,7 +60,7 @@ module _ (n : Network) (c : Connection) where
 
   pub fits-from-joining : joining n c ≡ Ok (with-connection n c) → Fits n c
   fits-from-joining h = record {
-    few = leb-false 4096 (length cs) (passed-from-ok n c h .few);
+    few = leb-false 4096 (length cs) (passed-from-ok n c _ h .few);
     ends = λ p q. ⊎-elim (λ l. rw (l .0, l .1) at (fit-first h)) (λ l. rw (l .0, l .1) at (fit-second h));
   }
 

@@ -2,7 +2,7 @@
 use mathlib.Core.Bool.{Bool, true, false, _||_}
 use mathlib.Core.List.{List}
 use mathlib.Core.Logic.{_⊎_, ⊎-elim}
-use mathlib.Core.Path.{_≡_, refl}
+use mathlib.Core.Path.{_≡_, refl, sym}
 use Prim.Native.Nat.{ℕ, _≤_, _<_}
 use lib.Dec.{leb, eqb}
 use lib.ListN.{length}
@@ -12,7 +12,7 @@ use Rattle.maps.specs.Members.{has}
 use Rattle.maps.specs.Networks.{Network, partners, with-connection, joining}
 use Rattle.maps.specs.declared.connection.Connection.{Connection}
 use Rattle.maps.specs.declared.refusal.MapRefusal.the-variants.{Count, NoPlace, Twice, Crowded}
-use Rattle.floor.proofs.Chains.{refused, passes, passed}
+use Rattle.floor.proofs.Chains.{ok-same, refused, passes, passed}
 
 or-either : {P Q : Type 0} (x y : Bool) → (P → x ≡ true) → (Q → y ≡ true) → P ⊎ Q → (x || y) ≡ true
 or-either x y p q = ⊎-elim (λ h. or-left x y (p h)) (λ h. or-right x y (q h))
@@ -63,18 +63,19 @@ module _ (n : Network) (c : Connection) where
             (passes _ _ _ _ (or-from _ _ (ne-eqb _ _ apart) new)
             (passes _ _ _ _ (or-from _ _ (lt-leb 8 _ room) (lt-leb 8 _ room′)) refl)))
 
-  -- each test in turn is passed
-  pub record Passed : Type 0 where
+  -- each test in turn is passed, and the connection is added
+  pub record Passed (m : Network) : Type 0 where
     pub few : leb 4096 (length cs) ≡ false
     pub on : (leb (n .places) one || leb (n .places) other) ≡ false
     pub new : (eqb one other || has other (partners one cs)) ≡ false
     pub room : (leb 8 (length (partners one cs)) || leb 8 (length (partners other cs))) ≡ false
+    pub is : m ≡ with-connection n c
 
-  pub passed-from-ok : joining n c ≡ Ok (with-connection n c) → Passed
+  pub passed-from-ok : (m : Network) → joining n c ≡ Ok m → Passed m
   unfolding joining
-  passed-from-ok h =
+  passed-from-ok m h =
       let few = passed (leb 4096 (length cs)) _ _ _ h in
       let on = passed (leb (n .places) one || leb (n .places) other) _ _ _ (few .1) in
       let new = passed (eqb one other || has other (partners one cs)) _ _ _ (on .1) in
       let room = passed (leb 8 (length (partners one cs)) || leb 8 (length (partners other cs))) _ _ _ (new .1) in
-      record { few = few .0; on = on .0; new = new .0; room = room .0 }
+      record { few = few .0; on = on .0; new = new .0; room = room .0; is = sym (ok-same (room .1)) }

@@ -1,0 +1,17 @@
+pub mod Words
+pub mod ListCommands
+pub mod ListLayout
+pub mod ListSteps
+pub mod Texts
+pub mod Numerals
+pub mod Bodies
+pub mod GridStages
+pub mod GridTells
+pub mod GridLayout
+pub mod TextSteps
+pub mod NumberSteps
+pub mod RowSteps
+pub mod GridHeadings
+pub mod GridsMade
+pub mod FaultAnswers
+pub mod MapFiles
