@@ -6,7 +6,7 @@ use Prim.Native.Nat.{ℕ}
 use lib.ListN.{drop}
 use Rattle.floor.proofs.Chains.{ok-no-err, ok-same}
 use Rattle.floor.specs.Checks.{_>>=_}
-use Rattle.maps.proofs.Gridding.{gridding-from-sized}
+use Rattle.maps.proofs.Gridding.{gridding-is-sized}
 use Rattle.maps.specs.Grids.{Grid, gridding}
 use Rattle.maps.specs.declared.refusal.MapRefusal.{MapRefusal}
 use Rattle.mapfile.proofs.GridLayout.{grid-read-exactly}
@@ -24,7 +24,7 @@ module _ (bytes : List ℕ) (h : Heading) (headed : grid-reading bytes ≡ behin
   read = headed ∙ ap (λ x. x >>= λ cells. Ok (record { height = h .height; width = h .width; free = cells })) filled
 
   made : gridding (h .height) (h .width) free ≡ Ok grid
-  made = gridding-from-sized grid (grid-read-exactly bytes grid .0 read .0)
+  made = gridding-is-sized grid .1 (grid-read-exactly bytes grid .0 read .0)
 
   pub never-refused : (e : MapRefusal) → gridding (h .height) (h .width) free ≡ Err e → ⊥
   never-refused e refused = ok-no-err (sym made ∙ refused)

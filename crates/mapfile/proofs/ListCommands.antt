@@ -9,7 +9,6 @@ use native.Mathlib.Omega.{arith}
 use lib.Dec.{eqb}
 use lib.ListN.{length}
 use Rattle.floor.proofs.Chains.{ok-no-err, err-same, bind-ok, bind-err, bind-at, passed, refused-or-passed}
-use Rattle.floor.specs.Checks.{_>>=_}
 use Rattle.maps.specs.Networks.{Network, Proper, joining, with-connection}
 use Rattle.maps.specs.declared.connection.Connection.{Connection}
 use Rattle.maps.proofs.Joining.{joining-is-proper}
@@ -19,7 +18,7 @@ use Rattle.maps.specs.declared.refusal.MapRefusal.{MapRefusal}
 use Rattle.maps.specs.declared.refusal.MapRefusal.the-variants.{Letter, CutShort}
 use Rattle.mapfile.specs.Faults.{fault}
 use Rattle.mapfile.specs.ListFiles.{connection, blame, cut, connecting}
-use Rattle.mapfile.specs.ListLayout.{connection-text, two-bytes, Bytes, NoContinuing, no-connection, places-cut, connection-refused}
+use Rattle.mapfile.specs.ListLayout.{connection-text, Bytes, NoContinuing, no-connection, places-cut, connection-refused}
 use Rattle.mapfile.specs.declared.fault.Fault.{Fault}
 use Rattle.mapfile.proofs.Words.{word-back, word-high, word-low}
 use Rattle.std.specs.Joined.{joined}

@@ -8,10 +8,9 @@ use native.Mathlib.Omega.{arith}
 use lib.Dec.{eqb}
 use lib.ListN.{length, drop}
 use Rattle.floor.proofs.Chains.{ok-no-err, err-same, bind-ok, bind-err, bind-at, passed, refused-or-passed}
-use Rattle.maps.specs.Networks.{Network, Proper, founding}
+use Rattle.maps.specs.Networks.{Network, Proper, bare, founding}
 use Rattle.maps.specs.declared.connection.Connection.{Connection}
 use Rattle.maps.proofs.Founding.{founding-ok, founding-gives}
-use Rattle.maps.proofs.Networks.{bare}
 use Rattle.maps.specs.declared.refusal.MapRefusal.{MapRefusal}
 use Rattle.maps.specs.declared.refusal.MapRefusal.the-variants.{Letter, CutShort}
 use Rattle.mapfile.specs.Faults.{fault}

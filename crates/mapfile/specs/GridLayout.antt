@@ -1,6 +1,7 @@
 -- The layout of a grid file, and what its first fault is.
 use mathlib.Core.Bool.{true, _||_}
 use mathlib.Core.List.{List, [], _∷_, _++_, map}
+use mathlib.Core.Logic.{_↔_}
 use mathlib.Core.Path.{_≡_}
 use Prim.Native.Nat.{ℕ, _+_, _-_, _*_, _≤_, _<_}
 use lib.ListN.{length, take}
@@ -54,7 +55,7 @@ pub record GridText (g : Grid) (bytes : List ℕ) : Type 0 where
 
 -- a grid is read exactly when the bytes are its text
 abbrev pub GridReadExactly : List ℕ → Type 0
-GridReadExactly bytes = (g : Grid) → (grid-reading bytes ≡ Ok g → Sized g × GridText g bytes) × (Sized g × GridText g bytes → grid-reading bytes ≡ Ok g)
+GridReadExactly bytes = (g : Grid) → (grid-reading bytes ≡ Ok g) ↔ Sized g × GridText g bytes
 
 -- ---- the first fault
 

@@ -1,5 +1,6 @@
 -- The layout of a list file, and what its first fault is.
 use mathlib.Core.List.{List, [], _∷_, _++_}
+use mathlib.Core.Logic.{_↔_}
 use mathlib.Core.Path.{_≡_}
 use Prim.Native.Nat.{ℕ, _+_, _/_, _%_, _<_}
 use lib.ListN.{length}
@@ -32,7 +33,7 @@ Bytes = All (λ b. b < 256)
 
 -- a network is read exactly when the bytes are its text
 abbrev pub ListReadExactly : List ℕ → Type 0
-ListReadExactly bytes = (n : Network) → (list-reading bytes ≡ Ok n → Proper n × (bytes ≡ list-text n)) × (Proper n × (bytes ≡ list-text n) → list-reading bytes ≡ Ok n)
+ListReadExactly bytes = (n : Network) → (list-reading bytes ≡ Ok n) ↔ Proper n × (bytes ≡ list-text n)
 
 -- ---- the first fault
 

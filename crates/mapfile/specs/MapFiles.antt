@@ -1,6 +1,7 @@
 -- Reading a map file of either layout: a first byte `P` means a list, any other beginning a grid.
 use mathlib.Core.Bool.{Bool, true, false}
 use mathlib.Core.List.{List, [], _∷_}
+use mathlib.Core.Logic.{_↔_}
 use mathlib.Core.Path.{_≡_}
 use Prim.Native.Nat.{ℕ}
 use lib.Dec.{eqb}
@@ -39,7 +40,7 @@ MapText (gridded g) bytes = Sized g × GridText g bytes
 
 -- a hall is read exactly when the bytes are its text
 abbrev pub MapReadExactly : List ℕ → Type 0
-MapReadExactly bytes = (h : Hall) → (map-reading bytes ≡ Ok h → MapText h bytes) × (MapText h bytes → map-reading bytes ≡ Ok h)
+MapReadExactly bytes = (h : Hall) → (map-reading bytes ≡ Ok h) ↔ MapText h bytes
 
 abbrev pub FaultAs : Bool → List ℕ → MapRefusal → ℕ → Type 0
 FaultAs true bytes e k = ListFault bytes e k

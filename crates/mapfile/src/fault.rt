@@ -3,7 +3,6 @@ ghost use Rattle.mapfile.specs.declared.fault.ReadError.the-variants.{Fault as
 use maps::MapRefusal;
 use maps::MapRefusalDebug;
 use maps::MapRefusalPartialEq;
-use std::alloc::AllocError;
 use std::alloc::Refused;
 
 // What is wrong in a map file, and where: the offset from the file's first byte.
@@ -25,14 +24,6 @@ pub impl From<Fault> for ReadError as ReadErrorFromFault {
 
     fn from(f: Fault) -> ReadError {
         ReadError::Fault(f)
-    }
-}
-
-pub impl From<AllocError> for ReadError as ReadErrorFromAlloc {
-    ghost converts = { λ _ r. r ≡ NoMemory };
-
-    fn from(_e: AllocError) -> ReadError {
-        ReadError::NoMemory
     }
 }
 

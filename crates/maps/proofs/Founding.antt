@@ -6,10 +6,10 @@ use Prim.Native.Nat.{ℕ, _≤_, _<_}
 use lib.Dec.{leb}
 use Rattle.std.specs.declared.result.Result.the-variants.{Ok, Err}
 use Rattle.std.proofs.shelf.Tests.{leb-true, lt-leb, le-leb, not-false, not-from-true, not-from-false, and-parts, and-from, and-left, and-right}
-use Rattle.maps.specs.Networks.{Network, Proper, founding}
+use Rattle.maps.specs.Networks.{Network, Proper, FoundingIsProper, bare, founding}
 use Rattle.maps.specs.declared.refusal.MapRefusal.the-variants.{Count}
 use Rattle.floor.proofs.Chains.{ok-same, refused, passes, passed}
-use Rattle.maps.proofs.Networks.{bare, bare-proper}
+use Rattle.maps.proofs.Networks.{bare-proper}
 
 pub founding-ok : (places : ℕ) → 1 ≤ places → places ≤ 1024 → founding places ≡ Ok (bare places)
 unfolding founding
@@ -27,3 +27,7 @@ founding-gives places n h =
     let tests = passed (not (leb 1 places && leb places 1024)) Count (Ok (bare places)) n h in
     let within = and-parts (leb 1 places) (leb places 1024) (not-false _ (tests .0)) in
     (sym (ok-same (tests .1)), bare-proper places (leb-true 1 places (within .0)) (leb-true places 1024 (within .1)))
+
+pub founding-is-proper : FoundingIsProper
+founding-is-proper places =
+    (λ h. founding-gives places (bare places) h .1, λ proper. founding-ok places (proper .lawful .some) (proper .lawful .most))

@@ -3,9 +3,9 @@
 use mathlib.Core.Bool.{Bool, true, false, cond, not}
 use mathlib.Core.List.{List, [], _∷_, _++_}
 use mathlib.Core.Path.{_≡_, refl, sym, ap}
-use Prim.Native.Nat.{ℕ, zero, suc, _+_, _≤_, _<_}
+use Prim.Native.Nat.{ℕ, zero, suc, _+_, _≤_}
 use native.Mathlib.Omega.{arith}
-use lib.ListN.{length, getD}
+use lib.ListN.{length}
 use Rattle.std.specs.shelf.Lists.{All, Has, kept-by}
 use Rattle.maps.proofs.Once.{Once}
 use Rattle.std.proofs.shelf.Elements.{all-weaker, all-getD, all-has, all-has-itself, all-kept-by, has-append-right, kept-by-passes}

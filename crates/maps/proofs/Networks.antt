@@ -10,7 +10,7 @@ use Rattle.std.proofs.shelf.Elements.{has-append-left}
 use Rattle.std.proofs.shelf.Lists.{length-append}
 use Rattle.floor.specs.Floor.{Joined, Lawful}
 use Rattle.floor.proofs.Neighbours.{has-from-joined, joined-from-has}
-use Rattle.maps.specs.Networks.{Network, Linked, Proper, NeighboursAreLinked, partners, network-floor, with-connection}
+use Rattle.maps.specs.Networks.{Network, Linked, Proper, NeighboursAreLinked, bare, partners, network-floor, with-connection}
 use Rattle.maps.specs.declared.connection.Connection.{Connection}
 use Rattle.maps.proofs.Once.{once-front}
 use Rattle.maps.proofs.Partners.{linked-from-has, has-from-linked, linked-back, partners-append}
@@ -39,9 +39,6 @@ lawful-out n law = record {
   once = λ p i j hi hj e. ∥∥₁-elim law (ℕ-set i j) (λ l. l .once p i j hi hj e);
   both-ways = joined-back n;
 }
-
-abbrev pub bare : ℕ → Network
-bare places = record { places = places; connections = [] }
 
 pub bare-lawful : (places : ℕ) → 1 ≤ places → places ≤ 1024 → Lawful (network-floor (bare places))
 bare-lawful places some most = record {

@@ -2,7 +2,7 @@
 -- lie side by side are neighbours.
 use mathlib.Core.Bool.{Bool, true, false, cond, not, _&&_}
 use mathlib.Core.List.{List, [], _∷_, _++_}
-use mathlib.Core.Logic.{_⊎_}
+use mathlib.Core.Logic.{_⊎_, _↔_}
 use mathlib.Core.Path.{_≡_}
 use Prim.Native.Nat.{ℕ, _+_, _-_, _*_, _/_, _%_, _≤_}
 use lib.Dec.{eqb, leb, ltb}
@@ -67,14 +67,18 @@ grid-floor g = record { count = g .height * g .width; next = around g }
 
 -- q is a neighbour of p exactly when both are free and side by side
 abbrev pub NeighboursAreBeside : Grid → Type 0
-NeighboursAreBeside g = (p q : ℕ) → (Joined (grid-floor g) p q → (free-at g p ≡ true) × (free-at g q ≡ true) × SideBySide (g .width) p q)
-    × ((free-at g p ≡ true) × (free-at g q ≡ true) × SideBySide (g .width) p q → Joined (grid-floor g) p q)
+NeighboursAreBeside g = (p q : ℕ) → Joined (grid-floor g) p q ↔ (free-at g p ≡ true) × (free-at g q ≡ true) × SideBySide (g .width) p q
 
 -- ---- how one is made
 
+-- cells for so many rows and columns
 unfoldable pub gridding : ℕ → ℕ → List Bool → Result Grid MapRefusal
 gridding height width free = do
   refuse (not (leb 1 height && leb height 32)) Gauge
   refuse (not (leb 1 width && leb width 32)) Gauge
   refuse (not (eqb (length free) (height * width))) Ragged
   Ok (record { height = height; width = width; free = free })
+
+-- the tests refuse exactly what is beyond the limits
+abbrev pub GriddingIsSized : Type 0
+GriddingIsSized = (g : Grid) → (gridding (g .height) (g .width) (g .free) ≡ Ok g) ↔ Sized g

@@ -2,7 +2,7 @@
 -- the connections.
 use mathlib.Core.Bool.{cond, not, _&&_, _||_}
 use mathlib.Core.List.{List, [], _∷_, _++_}
-use mathlib.Core.Logic.{_⊎_}
+use mathlib.Core.Logic.{_⊎_, _↔_}
 use mathlib.Core.Path.{_≡_}
 use Prim.Native.Nat.{ℕ, _≤_}
 use lib.Dec.{eqb, leb}
@@ -47,18 +47,21 @@ pub record Proper (n : Network) : Type 0 where
 
 -- q is a neighbour of p exactly when a connection joins them
 abbrev pub NeighboursAreLinked : Network → Type 0
-NeighboursAreLinked n = (p q : ℕ) → (Joined (network-floor n) p q → Linked p q (n .connections)) × (Linked p q (n .connections) → Joined (network-floor n) p q)
+NeighboursAreLinked n = (p q : ℕ) → Joined (network-floor n) p q ↔ Linked p q (n .connections)
 
 -- ---- how one is built
 
 abbrev pub with-connection : Network → Connection → Network
 with-connection n c = record { places = n .places; connections = n .connections ++ c ∷ [] }
 
+abbrev pub bare : ℕ → Network
+bare places = record { places = places; connections = [] }
+
 -- a network of so many places and no connection
 unfoldable pub founding : ℕ → Result Network MapRefusal
 founding places = do
   refuse (not (leb 1 places && leb places 1024)) Count
-  Ok (record { places = places; connections = [] })
+  Ok (bare places)
 
 -- one connection more
 unfoldable pub joining : Network → Connection → Result Network MapRefusal
@@ -70,5 +73,8 @@ joining n c = do
   Ok (with-connection n c)
 
 -- the tests refuse exactly what would be no list map
+abbrev pub FoundingIsProper : Type 0
+FoundingIsProper = (places : ℕ) → (founding places ≡ Ok (bare places)) ↔ Proper (bare places)
+
 abbrev pub JoiningIsProper : Type 0
-JoiningIsProper = (n : Network) (c : Connection) → Proper n → (joining n c ≡ Ok (with-connection n c) → Proper (with-connection n c)) × (Proper (with-connection n c) → joining n c ≡ Ok (with-connection n c))
+JoiningIsProper = (n : Network) (c : Connection) → Proper n → (joining n c ≡ Ok (with-connection n c)) ↔ Proper (with-connection n c)

@@ -3,7 +3,7 @@ ghost use mathlib.Core.Path.{_≡_};
 ghost use Prim.Native.Nat.{_<_};
 ghost use lib.ListN.{length};
 ghost use Rattle.maps.specs.GridMaps.{grid-of, Made};
-ghost use Rattle.maps.specs.Grids.{around, free-at, grid-floor, gridding, NeighboursAreBeside, Sized};
+ghost use Rattle.maps.specs.Grids.{around, free-at, grid-floor, gridding, GriddingIsSized, NeighboursAreBeside, Sized};
 ghost use Rattle.maps.specs.Tables.{listed};
 ghost use Rattle.std.specs.Of.Vec.{vec-items};
 ghost use Rattle.std.specs.shelf.Lists.{kept-by};
@@ -16,7 +16,8 @@ use floor::Place;
 impl GridMap {
     // A floor of so many rows and columns, from what is said of each cell.
     pub fn new(height: usize, width: usize, free: Vec<bool>) -> Result<GridMap, MapRefusal>
-        ensures { λ r. ⌜ Made (gridding height width (vec-items free)) r ⌝ }
+        ensures made { λ r. ⌜ Made (gridding height width (vec-items free)) r ⌝ }
+        ensures sized { λ _. ⌜ GriddingIsSized ⌝ }
     {
         if height < 1 || height > 32 || width < 1 || width > 32 {
             return Err(MapRefusal::Gauge);
@@ -29,18 +30,6 @@ impl GridMap {
             width,
             free,
         })
-    }
-
-    pub fn height(&self) -> usize
-        ensures { λ r. ⌜ r ≡ grid-of (now (self .entry)) .height ⌝ }
-    {
-        self.height
-    }
-
-    pub fn width(&self) -> usize
-        ensures { λ r. ⌜ r ≡ grid-of (now (self .entry)) .width ⌝ }
-    {
-        self.width
     }
 
     // Whether there is a free cell at `p`.

@@ -1,6 +1,6 @@
 ghost use mathlib.Core.Path.{_≡_};
 ghost use Rattle.maps.specs.ListMaps.{network-of, Made, Changed, Why};
-ghost use Rattle.maps.specs.Networks.{network-floor, founding, joining, Proper, JoiningIsProper, NeighboursAreLinked, partners};
+ghost use Rattle.maps.specs.Networks.{network-floor, founding, joining, Proper, FoundingIsProper, JoiningIsProper, NeighboursAreLinked, partners};
 ghost use Rattle.maps.specs.Tables.{listed};
 use crate::connection::Connection;
 use crate::list::ListMap;
@@ -16,7 +16,8 @@ const MOST_CONNECTIONS: usize = 4096;
 impl ListMap {
     // A floor of so many places and no connection.
     pub fn new(heap: Global, places: u16) -> Result<ListMap, MapError>
-        ensures { λ r. ⌜ Made (founding places) r ⌝ }
+        ensures made { λ r. ⌜ Made (founding places) r ⌝ }
+        ensures proper { λ _. ⌜ FoundingIsProper ⌝ }
     {
         if places < 1 || places > 1024 {
             return Err(MapError::Refused(MapRefusal::Count));
@@ -63,7 +64,7 @@ impl ListMap {
         let second = c.second.0 as usize;
         let near = self.row(c.first);
         let far = self.row(c.second);
-        let places = self.rows.len();
+        let places = self.places();
         if self.connections.len() >= MOST_CONNECTIONS {
             return Some(MapRefusal::Count);
         }

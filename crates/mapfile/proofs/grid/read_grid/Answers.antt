@@ -23,12 +23,12 @@ returns-in-Break-free c =
     }
 
 pub unreachable-requires : need.unreachable-requires
-unreachable-requires c κs = never-refused (c .args .bytes .now) (c .in-Continue-heading .heading) (c .in-Continue-heading .ensures tt .reads) _ (c .in-Continue-free .ensures tt) _ (c .in-Err .ensures tt)
+unreachable-requires c κs = never-refused (c .args .bytes .now) (c .in-Continue-heading .heading) (c .in-Continue-heading .ensures tt .reads) _ (c .in-Continue-free .ensures tt) _ (c .in-Err .ensures tt .made)
 
 pub returns : need.returns
 returns c =
     record {
-      reads = read-as-made (c .args .bytes .now) (c .in-Continue-heading .heading) (c .in-Continue-heading .ensures tt .reads) _ (c .in-Continue-free .ensures tt) _ (c .in-Ok .ensures tt);
+      reads = read-as-made (c .args .bytes .now) (c .in-Continue-heading .heading) (c .in-Continue-heading .ensures tt .reads) _ (c .in-Continue-free .ensures tt) _ (c .in-Ok .ensures tt .made);
       exactly = grid-read-exactly (c .args .bytes .now);
       first = grid-fault-is-first (c .args .bytes .now);
     }

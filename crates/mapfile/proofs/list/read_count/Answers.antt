@@ -28,7 +28,7 @@ returns-then-bytes-lt3 c = record {
 
 pub returns-in-Ok : need.returns-in-Ok
 returns-in-Ok c = record {
-  reads = beginning-founds (c .args .bytes .now) (c .if-bytes-lt3 .left) (c .if-bytes-ne80 .left) ∙ ap (λ n. blame 0 (founding n)) (sym (c .word .ensures)) ∙ ap (blame 0) (c .in-Ok .ensures tt);
+  reads = beginning-founds (c .args .bytes .now) (c .if-bytes-lt3 .left) (c .if-bytes-ne80 .left) ∙ ap (λ n. blame 0 (founding n)) (sym (c .word .ensures)) ∙ ap (blame 0) (c .in-Ok .ensures tt .made);
   long = c .if-bytes-lt3 .left;
 }
 
@@ -37,6 +37,6 @@ returns-in-Err c =
     let founds = beginning-founds (c .args .bytes .now) (c .if-bytes-lt3 .left) (c .if-bytes-ne80 .left) ∙ ap (λ n. blame 0 (founding n)) (sym (c .word .ensures)) in
     record {
       reads = subst (λ d. Answers network-of d (Err (c .error-at .result))) (sym founds)
-          (subst (λ e. Answers network-of (blame 0 (founding (c .word .result))) (Err e)) (sym (c .error-at .ensures)) (error-answers 0 (founding (c .word .result)) (c .in-Err .why) (c .in-Err .ensures tt)));
+          (subst (λ e. Answers network-of (blame 0 (founding (c .word .result))) (Err e)) (sym (c .error-at .ensures)) (error-answers 0 (founding (c .word .result)) (c .in-Err .why) (c .in-Err .ensures tt .made)));
       long = tt;
     }
