@@ -1,4 +1,6 @@
-// An account of a hall in each layout, and of damaged copies of its file.
+// An account of a hall in each layout: what its file holds, how short its carts' routes can be, and what becomes of
+// damaged copies of the file.
+mod carts;
 mod survey;
 
 use floor::FloorMap;
@@ -21,10 +23,19 @@ fn run(rt: &LibcRuntime) -> Result<(), AnyError> {
     let list = fs::read(rt, "hall.list")?;
     let grid = fs::read(rt, "hall.grid")?;
     tell_file(rt, "hall.list", list.as_slice())?;
+    carts::tell_list_carts(rt, &read_hall(rt, list.as_slice())?)?;
     tell_file(rt, "hall.grid", grid.as_slice())?;
+    carts::tell_grid_carts(rt, &read_hall(rt, grid.as_slice())?)?;
     tell_damaged_list(rt, list.as_slice())?;
     tell_damaged_grid(rt, grid.as_slice())?;
     Ok(())
+}
+
+fn read_hall(rt: &LibcRuntime, bytes: &[u8]) -> Result<AnyMap, AnyError> {
+    match read_map(rt.alloc(), bytes) {
+        Ok(map) => Ok(map),
+        Err(_) => Err("the hall is not read".into()),
+    }
 }
 
 // What a file holds, or why it is refused.

@@ -1,7 +1,6 @@
 // Runs map files at the edges of what is allowed, and prints what comes of each.
 mod grids;
 mod lists;
-mod worked;
 
 use floor::FloorMap;
 use mapfile::ReadError;
@@ -9,14 +8,12 @@ use mapfile::read_map;
 use maps::AnyFloorMap;
 use std::error::AnyError;
 use std::io;
-use worked::worked_maps;
 
 fn main(rt: LibcRuntime) -> Result<(), AnyError> {
     rt.report(run(&rt))
 }
 
 fn run(rt: &LibcRuntime) -> Result<(), AnyError> {
-    println!(rt, "{} worked map files are proved", worked_maps())?;
     lists::run(rt)?;
     grids::run(rt)
 }

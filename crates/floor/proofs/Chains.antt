@@ -1,7 +1,7 @@
 -- What the answer of a chain of tests says of the tests, and back.
 use mathlib.Core.Bool.{Bool, true, false, cond, not}
-use mathlib.Core.Logic.{_⊎_, inl, inr}
-use mathlib.Core.Path.{_≡_, refl, sym, ap, _∙_}
+use mathlib.Core.Logic.{_⊎_, inl, inr, _↔_}
+use mathlib.Core.Path.{_≡_, refl, sym, ap, _∙_, subst}
 use Prim.Native.Nat.{ℕ}
 use native.Mathlib.Omega.{arith}
 use Rattle.floor.specs.Checks.{refuse, _>>=_, _>>_}
@@ -69,3 +69,13 @@ module _ {A E : Type 0} (P : A → Type 0) (Q : E → Type 0) where
 pub only-ok : {A E : Type 0} (x : Result A E) (a : A) → Cases x (λ b. b ≡ a) (λ _. ⊥) → x ≡ Ok a
 only-ok (Ok b) a h = ap Ok h
 only-ok (Err e) a h = absurd h
+
+-- where the outcome tells things that exclude each other, each answer is given exactly when what it tells holds
+module _ {A E : Type 0} (P : A → Type 0) (Q : E → Type 0) where
+  pub ok-exactly : (x : Result A E) (a : A) → ((b : A) → P b → P a → b ≡ a) → ((e : E) → Q e → P a → ⊥) → Cases x P Q → (x ≡ Ok a) ↔ P a
+  ok-exactly (Ok b) a same apart h = (λ e. subst P (ok-same e) h, λ p. ap Ok (same b h p))
+  ok-exactly (Err e) a same apart h = (λ g. absurd (ok-no-err (sym g)), λ p. absurd (apart e h p))
+
+  pub err-exactly : (x : Result A E) (e : E) → ((d : E) → Q d → Q e → d ≡ e) → ((a : A) → P a → Q e → ⊥) → Cases x P Q → (x ≡ Err e) ↔ Q e
+  err-exactly (Ok a) e same apart h = (λ g. absurd (ok-no-err g), λ q. absurd (apart a h q))
+  err-exactly (Err d) e same apart h = (λ g. subst Q (err-same g) h, λ q. ap Err (same d h q))

@@ -1,9 +1,9 @@
 -- Whether a number is in a list.
-use mathlib.Core.Bool.{Bool, false, _||_}
-use mathlib.Core.List.{List, [], _∷_}
+use mathlib.Core.Bool.{Bool}
+use mathlib.Core.List.{List}
 use Prim.Native.Nat.{ℕ}
 use lib.Dec.{eqb}
+use Rattle.floor.specs.Tests.{some}
 
 abbrev pub has : ℕ → List ℕ → Bool
-has q [] = false
-has q (x ∷ xs) = eqb x q || has q xs
+has q = some (λ x. eqb x q)

@@ -1,0 +1,4 @@
+pub mod Stepping
+pub mod Listing
+pub mod Conflicting
+pub mod Reading
