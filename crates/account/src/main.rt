@@ -1,5 +1,7 @@
 // An account of a hall in each layout: what its file holds, how short its carts' routes can be, what each
 // letter of a split gives, a whole check call by call, and what becomes of damaged copies of the file.
+#![tactic(auto)]
+
 mod carts;
 mod checks;
 mod letters;

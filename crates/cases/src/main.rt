@@ -1,4 +1,6 @@
 // Runs worked cases of routes, conflicts, least lengths and splits, and prints what comes of each.
+#![tactic(auto)]
+
 mod lengths;
 mod routes;
 mod splitting;

@@ -1,4 +1,6 @@
 // Runs map files at the edges of what is allowed, and prints what comes of each.
+#![tactic(auto)]
+
 mod grids;
 mod lists;
 

@@ -5,14 +5,15 @@ use Rattle.floor.specs.Joins.{is_joined}
 use Rattle.floor.proofs.Deciding.{decides_some}
 use Rattle.std.specs.List.{slice_get}
 use Rattle.std.proofs.lemmas.List.{get_or_default}
+use Rattle.std.proofs.lemmas.List.Elements.{Decides-contains}
 use Rattle.std.proofs.lemmas.Option.{slice_get-get_or, slice_get_past}
 use Rattle.std.proofs.lemmas.Bool.Decides.{Decides-eqb, Decides-like}
 
 pub has_from_joined : (f : Floor) (p q : ℕ) → Joined f p q → Contains (f.next p) q
-has_from_joined f p q j = (j.at, j.within, λ d. get_or_default _ _ d 0 j.within ∙ j.is)
+has_from_joined f p q j = (j.at, j.within, get_or_default _ _ q 0 j.within ∙ j.is)
 
 pub joined_from_has : (f : Floor) (p q : ℕ) → Contains (f.next p) q → Joined f p q
-joined_from_has f p q h = record { at = h.0; within = h.1; is = h.2 0 }
+joined_from_has f p q h = record { at = h.0; within = h.1; is = get_or_default _ _ 0 q h.1 ∙ h.2 }
 
 -- what an answer of `neighbour` says of the list
 module _ (xs : List ℕ) (i : ℕ) where
@@ -32,7 +33,8 @@ module _ (f : Floor) (law : Lawful f) (p i q : ℕ) (h : Some q ≡ slice_get (f
   neighbour_early = let listed = neighbour_listed (f.next p) i q h in let few = law.few p in omega arith
 
 pub decides_joined : (f : Floor) (p q : ℕ) → Decides (is_joined f p q) (Joined f p q)
-decides_joined f p q = Decides-like _ (joined_from_has f p q) (has_from_joined f p q) (decides_some _ _ (λ n. Decides-eqb n q) (f.next p))
+decides_joined f p q =
+    Decides-like _ (joined_from_has f p q) (has_from_joined f p q) (Decides-contains _ q _ (decides_some _ _ (λ n. Decides-eqb n q) (f.next p)))
 
 -- as a loop over the neighbours finds it: q is neighbour number i, or none of those before the end
 module _ (f : Floor) (p q i : ℕ) where

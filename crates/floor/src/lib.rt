@@ -1,3 +1,5 @@
+#![tactic(auto)]
+
 mod joins;
 
 ghost use Rattle.std.specs.Prelude.{◌≡◌, length};

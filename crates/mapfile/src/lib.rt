@@ -1,3 +1,5 @@
+#![tactic(auto)]
+
 mod any;
 mod fault;
 mod grid;

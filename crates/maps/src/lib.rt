@@ -1,3 +1,5 @@
+#![tactic(auto)]
+
 mod any;
 mod connection;
 mod grid;

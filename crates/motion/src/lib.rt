@@ -1,3 +1,5 @@
+#![tactic(auto)]
+
 mod ban;
 mod route;
 mod trip;

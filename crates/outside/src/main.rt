@@ -1,4 +1,6 @@
 // A split rule written outside the crate of the interface, side by side with our own letters.
+#![tactic(auto)]
+
 mod single;
 
 use anyhow::anyhow;

@@ -1,3 +1,5 @@
+#![tactic(auto)]
+
 mod allowed;
 mod arrivals;
 mod bans;

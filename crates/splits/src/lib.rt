@@ -1,3 +1,5 @@
+#![tactic(auto)]
+
 mod beside;
 mod conditions;
 mod corridor;

@@ -9,8 +9,8 @@ returns-then-n-q g c =
     let joined = joined_found f c.args.p.0 c.args.q.0 c.loop-n.i c.in-Some.n.0 c.in-Some.ensures c.if-n-q.true in
     record { computed = sym ((decides_joined f c.args.p.0 c.args.q.0).1 joined); means = decides_yes joined }
 
-pub overflow-add-i : goal.overflow-add-i
-overflow-add-i g c = let few = (g.met.M.FloorMap.lawful c.args.map.now).few c.args.p.0 in search (rules, neighbour_listed)
+pub overflow_add-i : goal.overflow_add-i
+overflow_add-i g c = let few = (g.met.M.FloorMap.lawful c.args.map.now).few c.args.p.0 in search (rules, neighbour_listed)
 
 pub loop-n-smaller : goal.loop-n-smaller
 loop-n-smaller g c = search (rules, neighbour_listed)
@@ -23,5 +23,5 @@ loop-n-preserved g c =
 pub returns : goal.returns
 returns g c =
     let f = g.M.FloorMap.floor c.args.map.now in
-    let missed = joined_missed f c.args.p.0 c.args.q.0 c.loop-n.i c.loop-n.invariant c.in-default.ensures in
+    let missed = joined_missed f c.args.p.0 c.args.q.0 c.loop-n.i c.loop-n.invariant c.in_default.ensures in
     record { computed = sym (false_from_decides _ (decides_joined f c.args.p.0 c.args.q.0) missed); means = decides_no missed }
