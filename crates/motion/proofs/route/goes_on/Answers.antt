@@ -9,5 +9,5 @@ returns-then-tick-places g c = search (rules, nat_tests, step_read)
 pub returns-else-tick-places : goal.returns-else-tick-places
 returns-else-tick-places g c = search (rules, nat_tests, step_read)
 
-pub returns-else-may-step : goal.returns-else-may-step
-returns-else-may-step g c = search (rules, nat_tests, step_read)
+pub returns-else-may_step : goal.returns-else-may_step
+returns-else-may_step g c = search (rules, nat_tests, step_read)

@@ -7,8 +7,8 @@ use Rattle.motion.proofs.route.is_route.Goals as goal
 pub returns-then-places-eq0 : goal.returns-then-places-eq0
 returns-then-places-eq0 g c = search (rules, nat_tests, route_read)
 
-pub returns-then-not-goes-on : goal.returns-then-not-goes-on
-returns-then-not-goes-on g c = search (rules, no_route_at)
+pub returns-then-not-goes_on : goal.returns-then-not-goes_on
+returns-then-not-goes_on g c = search (rules, no_route_at)
 
 pub loop-t-preserved : goal.loop-t-preserved
 loop-t-preserved g c = search (rules, every_below_more)
