@@ -1,6 +1,5 @@
 -- The least lengths sum below a claim exactly where a cheaper set exists.
 use Rattle.std.proofs.Common.{◌≡◌, ℕ, ◌<◌, ◌≤◌, true, List, length, Some, None, Decides, All, Option, sym, ⊎_elim, arith, MatchOption}
-use Rattle.std.proofs.lemmas.List.Elements.{All-weaker}
 use Rattle.std.proofs.lemmas.Bool.{cases_lt, ltb-true, lt-ltb, true≢false}
 use Rattle.floor.specs.Floor.{Floor, Lawful}
 use Rattle.motion.specs.Routes.{Route, RouteSet, start_of, target_of}
@@ -10,7 +9,6 @@ use Rattle.motion.specs.declared.trip.Trip.{Trip}
 use Rattle.motion.specs.declared.ban.Ban.{Ban}
 use Rattle.search.specs.Least.{least_below, cheaper}
 use Rattle.search.specs.Sums.{sum_below, is_below}
-use Rattle.search.proofs.Each.{all_each}
 use Rattle.search.proofs.Leasts.{least_below_is}
 use Rattle.search.proofs.Sums.{sum_is, given, Lacks, Sums, total_mono, total_part}
 
@@ -32,13 +30,13 @@ module _ (f : Floor) (law : Lawful f) (trips : List Trip) (bans : List Ban) (cla
 
     least_set_keeps : KeepsAll least_set bans
     unfolding least_set
-    least_set_keeps = all_each _ bans (λ a. all_each _ bans (λ h. ((kept a).1 h).1))
+    least_set_keeps = λ k d lt a h. ((kept a).1 h).1 k d lt
 
   cheaper_from : Cheaper f trips bans claim → is_below claim (sum_below leasts (length trips)) ≡ true
   cheaper_from c = by_sum (sum_below leasts (length trips)) (sum_is leasts (length trips))
     where
       keeping_of : (a : ℕ) → a < length trips → Keeping f trips bans a (c.set.len a)
-      keeping_of a h = record { at = c.set.at a; route = c.set.route a h; keeps = All-weaker _ _ (λ b k. k a h) bans c.keeps }
+      keeping_of a h = record { at = c.set.at a; route = c.set.route a h; keeps = λ k d lt. c.keeps k d lt a h }
 
       below : (a : ℕ) → a < length trips → c.set.len a < claim
       below a h = let part = total_part c.set.len (length trips) a h in let sum = c.below in omega arith

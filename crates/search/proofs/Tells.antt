@@ -1,6 +1,5 @@
 -- What the tests of a ban say.
 use Rattle.std.proofs.Common.{◌≡◌, ℕ, suc, ◌-◌, ◌<◌, ◌≤◌, max, leb, List, Decides, All, sym, arith}
-use Rattle.std.proofs.lemmas.List.Elements.{All-weaker}
 use Rattle.std.proofs.lemmas.Bool.Decides.{Decides-and, Decides-not, Decides-eqb, Decides-ltb, Decides-like}
 use Rattle.floor.proofs.Deciding.{decides_leb, decides_yes, decides_and3, decides_and4, decides_implies, decides_every}
 use Rattle.motion.specs.Routes.{target_of}
@@ -11,7 +10,6 @@ use Rattle.motion.specs.declared.ban.Ban.{Ban}
 use Rattle.motion.specs.declared.ban.Ban.TheVariants.{Stand, Move, Late, By}
 use Rattle.search.specs.Lets.{within, lets_be, lets_go, lets_rest, lets_end}
 use Rattle.search.specs.Rows.{can_be, can_go}
-use Rattle.search.proofs.Each.{all_each, all_both}
 
 decides_within : (f l t : ℕ) → Decides (within f l t) (Within f l t)
 decides_within f l t = Decides-and (leb f t) (leb t l) (decides_leb f t) (decides_leb t l)
@@ -95,26 +93,23 @@ module _ (trips : List Trip) (a : ℕ) where
     decides_can_go t p q = decides_every _ _ (decides_go t p q) bans
 
     pub keeps_ends : (r : ℕ → ℕ) (n : ℕ) → All (Bears trips a r n) bans → All (Ends n) bans
-    keeps_ends r n = All-weaker _ _ (λ b h. (parts_from_bears r n b h).0) bans
+    keeps_ends r n h = λ k d lt. (parts_from_bears r n _ (h k d lt)).0
 
     pub keeps_be : (r : ℕ → ℕ) (n : ℕ) → All (Bears trips a r n) bans → (t : ℕ) → CanBe t (r t)
-    keeps_be r n h t = All-weaker _ _ (λ b k. (parts_from_bears r n b k).1 t) bans h
+    keeps_be r n h t = λ k d lt. (parts_from_bears r n _ (h k d lt)).1 t
 
     pub keeps_go : (r : ℕ → ℕ) (n : ℕ) → All (Bears trips a r n) bans → (t : ℕ) → CanGo (suc t) (r t) (r (suc t))
-    keeps_go r n h t = All-weaker _ _ (λ b k. (parts_from_bears r n b k).2 t) bans h
+    keeps_go r n h t = λ k d lt. (parts_from_bears r n _ (h k d lt)).2 t
 
     pub keeps_from : (r : ℕ → ℕ) (n : ℕ) → All (Ends n) bans → ((t : ℕ) → CanBe t (r t)) → ((t : ℕ) → CanGo (suc t) (r t) (r (suc t))) → All (Bears trips a r n) bans
-    keeps_from r n ends be go =
-        All-weaker _ _ (λ b h. bears_from_parts r n b (h.0.0, h.0.1, h.1)) bans
-        (all_both _ _ bans (all_both _ _ bans ends (all_each _ bans be)) (all_each _ bans go))
+    keeps_from r n ends be go = λ k d lt. bears_from_parts r n _ (ends k d lt, λ t. be t k d lt, λ t. go t k d lt)
 
     -- resting at p from n on
     pub rests_be : (n p : ℕ) → All (Rests n p) bans → (t : ℕ) → n ≤ t → CanBe t p
-    rests_be n p h t from = All-weaker _ _ (λ b k. (k t from).0) bans h
+    rests_be n p h t from = λ k d lt. (h k d lt t from).0
 
     pub rests_go : (n p : ℕ) → All (Rests n p) bans → (t : ℕ) → n ≤ t → CanGo (suc t) p p
-    rests_go n p h t from = All-weaker _ _ (λ b k. (k t from).1) bans h
+    rests_go n p h t from = λ k d lt. (h k d lt t from).1
 
     pub rests_from : (n p : ℕ) → ((t : ℕ) → n ≤ t → CanBe t p × CanGo (suc t) p p) → All (Rests n p) bans
-    rests_from n p h =
-        all_each _ bans (λ t. all_each _ bans (λ from. all_both _ _ bans (h t from).0 (h t from).1))
+    rests_from n p h = λ k d lt t from. ((h t from).0 k d lt, (h t from).1 k d lt)

@@ -40,8 +40,8 @@ fn comes_home<M: FloorMap>(
     t: Tick,
     row: &[bool],
 ) -> bool
-    requires { length row.now ≡ (floor map.now).count }
-    ensures { result ≡ comes_home (floor map.now) trips.now (listed bans.entry) a t.0 row.now }
+    requires { length row.now ≡ (M.floor map.now).count }
+    ensures { result ≡ comes_home (M.floor map.now) trips.now (listed bans.entry) a t.0 row.now }
 {
     let target = target_of(trips, a);
     let mut i = 0;
@@ -70,7 +70,7 @@ pub fn ends_at<M: FloorMap>(
     a: usize,
     n: Length,
 ) -> bool
-    ensures { result ≡ (can_end trips.now (listed bans.entry) a n.0.0 && comes_home (floor map.now) trips.now (listed bans.entry) a n.0.0 (row_of (floor map.now).count work.now)) }
+    ensures { result ≡ (can_end trips.now (listed bans.entry) a n.0.0 && comes_home (M.floor map.now) trips.now (listed bans.entry) a n.0.0 (row_of (M.floor map.now).count work.now)) }
 {
     can_end(trips, bans, a, n) && comes_home(map, trips, bans, a, n.0, &work.row[0..map.places()])
 }

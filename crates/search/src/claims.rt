@@ -39,8 +39,8 @@ pub fn cheaper<M: FloorMap>(
     bans: &[Ban],
     claim: u16,
 ) -> bool
-    ensures computed { result ≡ cheaper (floor map.now) trips.now bans.now claim }
-    ensures means { Decides result (Cheaper (floor map.now) trips.now bans.now claim) }
+    ensures computed { result ≡ cheaper (M.floor map.now) trips.now bans.now claim }
+    ensures means { Decides result (Cheaper (M.floor map.now) trips.now bans.now claim) }
 {
     let bans = Bans {
         branch: bans,

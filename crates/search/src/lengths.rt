@@ -21,7 +21,7 @@ pub fn least<M: FloorMap>(
     a: usize,
     limit: Length,
 ) -> Option<Length>
-    ensures { option_map (λ n. n.0.0) result ≡ least_below (floor map.now) trips.now (listed bans.entry) a limit.0.0 }
+    ensures { option_map (λ n. n.0.0) result ≡ least_below (M.floor map.now) trips.now (listed bans.entry) a limit.0.0 }
 {
     let last = limit.0.0.checked_sub(1)?;
     if starts_home(trips, bans, a) {
@@ -47,8 +47,8 @@ pub fn least_length<M: FloorMap>(
     cart: Cart,
     limit: Length,
 ) -> Option<Length>
-    ensures computed { option_map (λ n. n.0.0) result ≡ least_length (floor map.now) trips.now bans.now cart.0 limit.0.0 }
-    ensures means { IsLeast (floor map.now) trips.now bans.now cart.0 limit.0.0 (option_map (λ n. n.0.0) result) }
+    ensures computed { option_map (λ n. n.0.0) result ≡ least_length (M.floor map.now) trips.now bans.now cart.0 limit.0.0 }
+    ensures means { IsLeast (M.floor map.now) trips.now bans.now cart.0 limit.0.0 (option_map (λ n. n.0.0) result) }
 {
     let a = cart.0 as usize;
     if a >= trips.len() {

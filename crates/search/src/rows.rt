@@ -75,8 +75,8 @@ fn push_from<M: FloorMap>(
     p: Place,
     next: &mut [bool],
 )
-    requires { (p.0 < length next.old) × (length next.old ≡ (floor map.now).count) }
-    ensures { (k : ℕ) → marked next.new k ≡ (can_step (floor map.now) trips.now (listed bans.entry) a t.0 p.0 k || marked next.old k) }
+    requires { (p.0 < length next.old) × (length next.old ≡ (M.floor map.now).count) }
+    ensures { (k : ℕ) → marked next.new k ≡ (can_step (M.floor map.now) trips.now (listed bans.entry) a t.0 p.0 k || marked next.old k) }
 {
     enter(trips, bans, a, t, p, p, next);
     let mut i = 0;
@@ -96,8 +96,8 @@ pub fn step<M: FloorMap>(
     row: &[bool],
     next: &mut [bool],
 )
-    requires { (length row.now ≡ (floor map.now).count) × (length next.old ≡ (floor map.now).count) }
-    ensures { next.new ≡ next_row (floor map.now) trips.now (listed bans.entry) a t.0 row.now }
+    requires { (length row.now ≡ (M.floor map.now).count) × (length next.old ≡ (M.floor map.now).count) }
+    ensures { next.new ≡ next_row (M.floor map.now) trips.now (listed bans.entry) a t.0 row.now }
 {
     clear(next);
     for p in 0..row.len() {

@@ -13,7 +13,7 @@ use motion::{Ban, Trip};
 
 // Whether the row marks the place.
 fn marks<M: FloorMap>(work: &Workspace, map: &M, place: Place) -> bool
-    ensures { result ≡ marked (row_of (floor map.now).count work.now) place.0 }
+    ensures { result ≡ marked (row_of (M.floor map.now).count work.now) place.0 }
 {
     let p = place.0 as usize;
     p < map.places() && work.row[p]
@@ -30,8 +30,8 @@ pub fn can_stand<M: FloorMap>(
     place: Place,
     tick: Tick,
 ) -> bool
-    ensures computed { result ≡ can_stand (floor map.now) trips.now bans.now cart.0 tick.0 place.0 }
-    ensures means { Decides result (CanStand (floor map.now) trips.now bans.now cart.0 tick.0 place.0) }
+    ensures computed { result ≡ can_stand (M.floor map.now) trips.now bans.now cart.0 tick.0 place.0 }
+    ensures means { Decides result (CanStand (M.floor map.now) trips.now bans.now cart.0 tick.0 place.0) }
 {
     let a = cart.0 as usize;
     if a >= trips.len() {
@@ -56,8 +56,8 @@ pub fn stands_before<M: FloorMap>(
     place: Place,
     tick: Tick,
 ) -> bool
-    ensures computed { result ≡ stands_before (floor map.now) trips.now (listed bans.entry) cart.0 tick.0 place.0 }
-    ensures means { Decides result (StandsBefore (floor map.now) trips.now (listed bans.entry) cart.0 tick.0 place.0) }
+    ensures computed { result ≡ stands_before (M.floor map.now) trips.now (listed bans.entry) cart.0 tick.0 place.0 }
+    ensures means { Decides result (StandsBefore (M.floor map.now) trips.now (listed bans.entry) cart.0 tick.0 place.0) }
 {
     let a = cart.0 as usize;
     if a >= trips.len() {

@@ -13,7 +13,7 @@ use std::mem::swap;
 
 // Makes the row that of tick 0.
 pub fn start<M: FloorMap>(work: &mut Workspace, map: &M, trips: &[Trip], bans: Bans, a: usize)
-    ensures { row_of (floor map.now).count work.new ≡ first_row trips.now (listed bans.entry) a (floor map.now).count }
+    ensures { row_of (M.floor map.now).count work.new ≡ first_row trips.now (listed bans.entry) a (M.floor map.now).count }
 {
     let n = map.places();
     begin(trips, bans, a, &mut work.row[0..n]);
@@ -28,7 +28,7 @@ pub fn advance<M: FloorMap>(
     a: usize,
     t: Tick,
 )
-    ensures { row_of (floor map.now).count work.new ≡ next_row (floor map.now) trips.now (listed bans.entry) a t.0 (row_of (floor map.now).count work.old) }
+    ensures { row_of (M.floor map.now).count work.new ≡ next_row (M.floor map.now) trips.now (listed bans.entry) a t.0 (row_of (M.floor map.now).count work.old) }
 {
     let n = map.places();
     step(
@@ -52,7 +52,7 @@ pub fn run_to<M: FloorMap>(
     a: usize,
     tick: Tick,
 )
-    ensures { row_of (floor map.now).count work.new ≡ row_at (floor map.now) trips.now (listed bans.entry) a tick.0 }
+    ensures { row_of (M.floor map.now).count work.new ≡ row_at (M.floor map.now) trips.now (listed bans.entry) a tick.0 }
 {
     start(work, map, trips, bans, a);
     for u in 0..tick.0 {

@@ -20,6 +20,6 @@ returns g c =
     let law = g.met.M.FloorMap.lawful c.args.map.now in
     let leasts = λ (a : ℕ). least_below f c.args.trips.now c.args.bans.now a c.args.claim in
     let end : c.loop-a.a ≡ length c.args.trips.now = omega arith in
-    let is : c.is-below.result ≡ cheaper f c.args.trips.now c.args.bans.now c.args.claim =
-    c.is-below.ensures ∙ ap (is_below c.args.claim) c.loop-a.invariant ∙ capped_below c.args.claim (sum_below leasts c.loop-a.a) ∙ ap (λ n. is_below c.args.claim (sum_below leasts n)) end in
+    let is : c.is_below.result ≡ cheaper f c.args.trips.now c.args.bans.now c.args.claim =
+    c.is_below.ensures ∙ ap (is_below c.args.claim) c.loop-a.invariant ∙ capped_below c.args.claim (sum_below leasts c.loop-a.a) ∙ ap (λ n. is_below c.args.claim (sum_below leasts n)) end in
     record { computed = is; means = Decides-at _ _ is (decides_cheaper f law c.args.trips.now c.args.bans.now c.args.claim) }

@@ -3,13 +3,13 @@ use Rattle.floor.proofs.Neighbours.{neighbour_listed, neighbours_ended, neighbou
 use Rattle.search.proofs.RowLoops.{push_more, push_all}
 use Rattle.search.proofs.rows.push_from.Goals as goal
 
-pub enter_requires_in_Some : goal.enter_requires_in_Some
-enter_requires_in_Some g c =
+pub enter-requires-in-Some : goal.enter-requires-in-Some
+enter-requires-in-Some g c =
     let on = neighbour_on_floor _ (g.met.M.FloorMap.lawful c.args.map.now) c.args.p.0 c.loop-q.i c.in-Some.q.0 c.in-Some.ensures in
     omega arith
 
-pub overflow-add-i : goal.overflow-add-i
-overflow-add-i g c =
+pub overflow_add-i : goal.overflow_add-i
+overflow_add-i g c =
     let early = neighbour_early _ (g.met.M.FloorMap.lawful c.args.map.now) c.args.p.0 c.loop-q.i c.in-Some.q.0 c.in-Some.ensures in
     omega arith
 
@@ -27,4 +27,4 @@ loop-q-preserved g c = λ k.
 pub returns : goal.returns
 returns g c = λ k.
     let next = (g.M.FloorMap.floor c.args.map.now).next c.args.p.0 in
-    push_all next c.loop-q.i k _ _ _ _ _ (neighbours_ended next c.loop-q.i c.in-default.ensures) (c.loop-q.invariant k) (c.enter.ensures k)
+    push_all next c.loop-q.i k _ _ _ _ _ (neighbours_ended next c.loop-q.i c.in_default.ensures) (c.loop-q.invariant k) (c.enter.ensures k)

@@ -10,7 +10,7 @@ pub returns : goal.returns
 returns g c =
     let n = (g.M.FloorMap.floor c.args.map.now).count in
     let most = (g.met.M.FloorMap.lawful c.args.map.now).most in
-    let lent : length (take (c.places-n.result - 0) c.deref-mut.result.now) ≡ n = simp length-take (omega arith) in
+    let lent : length (take (c.places-n.result - 0) c.deref_mut.result.now) ≡ n = simp length-take (omega arith) in
     let is : c.begin.new.row ≡ first_row c.args.trips.now (listed c.args.bans) c.args.a n =
     c.begin.ensures ∙ ap (first_row c.args.trips.now (listed c.args.bans) c.args.a) lent in
     front_refilled c.args.work.now.row c.begin.new.row _ n (ap length is ∙ length-map-range_with_len _ 0 n) (omega arith) ∙ is
