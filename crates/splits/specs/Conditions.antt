@@ -1,5 +1,5 @@
 -- What every letter asks of its carts, places and ticks, and how an answer tells what was so.
-use Rattle.std.specs.Prelude.{◌≡◌, ◌<◌, Bool, not, ◌&&◌, List, length, Ok, Err, Result, ◌==◌, ◌≢◌, nat_le, nat_lt}
+use Rattle.std.specs.Prelude.{◌<◌, Bool, not, ◌&&◌, List, length, Ok, Err, Result, ◌==◌, ◌≢◌, nat_le, nat_lt}
 use Rattle.floor.specs.Checks.{refuse, ◌>>◌}
 use Rattle.floor.specs.Floor.{Floor}
 use Rattle.floor.specs.declared.Cart.{Cart}

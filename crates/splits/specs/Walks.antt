@@ -1,14 +1,14 @@
 -- Walks of a set's routes, and walks without one move.
 use Rattle.std.specs.Prelude.{◌≡◌, ℕ, suc, ◌<◌, ◌≤◌, ◌↔◌, List, ◌∷◌, length, All, ◌≢◌, refl}
 use Rattle.std.proofs.Common.{sym, arith}
-use Rattle.std.proofs.lemmas.List.Elements.{All-weaker}
+use Rattle.std.proofs.lemmas.List.Elements.{All-cons, All-head, All-tail}
 use Rattle.floor.specs.Floor.{Floor}
 use Rattle.floor.specs.declared.Cart.{Cart}
 use Rattle.floor.specs.declared.Place.{Place}
 use Rattle.floor.specs.declared.Tick.{Tick}
 use Rattle.motion.specs.Bans.{Bears, KeepsAll}
 use Rattle.motion.specs.Routes.{RouteSet}
-use Rattle.motion.specs.Stands.{Walk}
+use Rattle.motion.specs.Stands.{Bars, BarsMove, Walk}
 use Rattle.motion.specs.declared.ban.Ban.{Ban}
 use Rattle.motion.specs.declared.ban.Ban.TheVariants.{Move}
 use Rattle.motion.specs.declared.trip.Trip.{Trip}
@@ -28,7 +28,7 @@ module _ (f : Floor) (trips : List Trip) (bans : List Ban) where
   }
     where
       bears : All (Bears trips a (s.at a) (s.len a)) bans
-      bears = All-weaker _ _ (λ b h. h a on) bans keeps
+      bears = λ k d lt. keeps k d lt a on
 
   -- and without a move that they do not make, walks without it
   pub route_walk_without : (s : RouteSet f trips) → KeepsAll s bans → (a : ℕ) → a < length trips → (from to u p : ℕ) → s.at a u ≡ p →
@@ -46,17 +46,17 @@ module _ (f : Floor) (trips : List Trip) (bans : List Ban) where
         begins = w.begins;
         ends = w.ends;
         steps = w.steps;
-        stands = λ t h. (w.stands t h).1;
-        moves = λ t h. (w.moves t h).1;
+        stands = λ t h. All-tail (λ b. Bars trips a.0 t (w.at t) b → ⊥) (Move a from to (tick 0) m) bans (w.stands t h);
+        moves = λ t h. All-tail (λ b. BarsMove a.0 (suc t) (w.at t) (w.at (suc t)) b → ⊥) (Move a from to (tick 0) m) bans (w.moves t h);
       };
-      never = λ t h leaves comes. (w.moves t h).0 (refl, (omega arith, omega arith), sym leaves, sym comes);
+      never = λ t h leaves comes. All-head (λ b. BarsMove a.0 (suc t) (w.at t) (w.at (suc t)) b → ⊥) (Move a from to (tick 0) m) bans (w.moves t h) (refl, (omega arith, omega arith), sym leaves, sym comes);
     },
     λ w. record {
       at = w.walk.at;
       begins = w.walk.begins;
       ends = w.walk.ends;
       steps = w.walk.steps;
-      stands = λ t h. (λ bar. bar, w.walk.stands t h);
-      moves = λ t h. (λ bar. w.never t h (sym bar.2) (sym bar.3), w.walk.moves t h);
+      stands = λ t h. All-cons (λ b. Bars trips a.0 t (w.walk.at t) b → ⊥) (Move a from to (tick 0) m) bans (λ bar. bar) (w.walk.stands t h);
+      moves = λ t h. All-cons (λ b. BarsMove a.0 (suc t) (w.walk.at t) (w.walk.at (suc t)) b → ⊥) (Move a from to (tick 0) m) bans (λ bar. w.never t h (sym bar.2) (sym bar.3)) (w.walk.moves t h);
     },
   )
