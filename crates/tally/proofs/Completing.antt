@@ -20,11 +20,11 @@ module _ (o : Opening) (t : Tally) (well : ShownWell o t.shown) (complete : Comp
   route_at : (a : ℕ) → a < carts o → RouteOf o a (places_shown t a)
   route_at a lt =
       let w = shown_at a lt in
-      subst (RouteOf o a) w.2.1 (subst (λ b. RouteOf o b w.0.places) w.2.0 (All-contains _ t.shown w.0 well.are_routes w.1))
+      subst (RouteOf o a) w.2.1 (subst (λ b. RouteOf o b w.0.places) w.2.0 (All-contains (λ s. RouteOf o s.cart s.places) t.shown w.0 well.are_routes w.1))
 
   free_at : (a b : ℕ) → a < carts o → b < carts o → (a ≡ b → ⊥) → Conflict (place_at (places_shown t a)) (place_at (places_shown t b)) → ⊥
-  free_at a b in-a in_b differ clash =
-      let v = shown_at a in-a in let w = shown_at b in_b in
+  free_at a b in_a in_b differ clash =
+      let v = shown_at a in_a in let w = shown_at b in_b in
       well.free v.0 w.0 v.1 w.1 (λ same. differ (sym v.2.0 ∙ same ∙ w.2.0))
       (subst (λ ps. Conflict (place_at ps) (place_at w.0.places)) (sym v.2.1) (subst (λ ps. Conflict (place_at (places_shown t a)) (place_at ps)) (sym w.2.1) clash))
 

@@ -4,7 +4,7 @@ use Rattle.motion.specs.Bans.{Keeps, KeepsAll}
 use Rattle.motion.specs.Routes.{ConflictFree, RouteSet, sum_of}
 use Rattle.motion.specs.declared.ban.Ban.{Ban}
 use Rattle.splits.specs.Rules.{Covered}
-use Rattle.std.proofs.lemmas.List.Elements.{All-push}
+use Rattle.std.proofs.lemmas.List.Elements.{All-nil, All-push}
 use Rattle.std.proofs.lemmas.Bool.{cases_lt}
 use Rattle.tally.specs.CallAnswers.{Reached}
 use Rattle.tally.specs.Calls.{Call, Closable, Takes, by_close, by_show, by_split}
@@ -41,7 +41,7 @@ module _ (o : Opening) where
 
     module _ (t : Tally) (reached : Reached o t) where
       pub rivals_covered : Covers t.branches
-      rivals_covered = kept o sound (λ v. Covers v.branches) (λ v c u _. covers_kept v c u) (λ s free below. among_first (KeptAt s) _ [] tt) t reached
+      rivals_covered = kept o sound (λ v. Covers v.branches) (λ v c u _. covers_kept v c u) (λ s free below. among_first (KeptAt s) _ [] (All-nil (Keeps s))) t reached
 
       pub none_open_no_rival : t.branches ≡ [] → NoRival o
       none_open_no_rival none s free =

@@ -1,10 +1,9 @@
 -- An honest plan's splits and closings are due, its shows fit, and together they settle as least.
-use Rattle.std.proofs.Common.{◌≡◌, ℕ, zero, suc, ◌+◌, ◌<◌, ◌≤◌, eqb, List, [], ◌∷◌, ◌++◌, map, Some, All, Contains, unwrap_or, sym, refl, ap, ◌∙◌, subst, ⊎_elim, append_assoc, append-nil, arith}
+use Rattle.std.proofs.Common.{◌≡◌, ℕ, zero, suc, ◌+◌, ◌<◌, ◌≤◌, eqb, List, [], ◌∷◌, ◌++◌, length, get_or, map, Some, All, Contains, unwrap_or, sym, refl, ap, ◌∙◌, subst, ⊎_elim, append_assoc, append-nil, arith}
 use Rattle.motion.specs.Listed.{place_at, steps}
 use Rattle.motion.specs.Routes.{Conflict}
 use Rattle.motion.specs.declared.ban.Ban.{Ban}
-use Rattle.search.proofs.Each.{all_both}
-use Rattle.std.proofs.lemmas.List.Elements.{All-push, All-weaker}
+use Rattle.std.proofs.lemmas.List.Elements.{All-head, All-nil, All-push, All-tail}
 use Rattle.std.proofs.lemmas.Bool.{cases_eq, cond-false, cond-true, eq-eqb, ne_eqb}
 use Rattle.tally.specs.CallAnswers.{after_all}
 use Rattle.tally.specs.Calls.{Call, Showable}
@@ -51,24 +50,27 @@ module _ (o : Opening) (routes : ℕ → List ℕ) (claimed : ClaimedRoutes o ro
     cart = there;
     new = new;
     route = claimed.are_routes a there;
-    free = All-weaker _ _ (λ s h. subst (λ ps. Conflict (place_at (routes a)) (place_at ps) → ⊥) (sym h.0.1) (claimed.free a s.cart there h.0.0 (λ e. h.1 (sym e)))) shown (all_both _ _ shown own new);
+    free = λ k d lt. subst (λ ps. Conflict (place_at (routes a)) (place_at ps) → ⊥) (sym (own k d lt).1)
+        (claimed.free a (get_or shown k d).cart there (own k d lt).0 (λ e. new k d lt (sym e)));
   }
 
   to_show : (order : List ℕ) (shown : List Shown) → All AsPlanned shown → All (λ a. a < carts o) order → Distinct order → All (New shown) order
       → ToShow o shown (shows_of routes order) (shown ++ map planned order)
   to_show [] shown own there once new = subst (ToShow o shown []) (sym (append-nil shown)) none_left
   to_show (a ∷ order) shown own there once new =
-      show_next (showable shown a own there.0 new.0)
+      let first = All-head (λ b. b < carts o) a order there in
+      let rest = All-tail (λ b. b < carts o) a order there in
+      show_next (showable shown a own first (All-head (New shown) a order new))
       (subst (ToShow o _ _) (append_assoc shown (planned a ∷ []) (map planned order))
-      (to_show order (shown ++ (planned a ∷ [])) (All-push AsPlanned shown (planned a) own (there.0, refl)) there.1 once.1
-      (All-weaker _ _ (λ b h. All-push _ shown (planned a) h.1 h.0) order (all_both _ _ order once.0 new.1))))
+      (to_show order (shown ++ (planned a ∷ [])) (All-push AsPlanned shown (planned a) own (first, refl)) rest once.1
+      (λ k d lt. All-push (λ s. s.cart ≡ get_or order k d → ⊥) shown (planned a) (All-tail (New shown) a order new k d lt) (once.0 k d lt))))
 
   same_found : (a b : ℕ) (shown : List Shown) → a ≡ b → places_of (planned a ∷ shown) b ≡ Some (routes b)
   same_found a b shown e = cond-true (eqb a b) (Some (routes a)) (places_of shown b) (eq-eqb a b e) ∙ ap (λ x. Some (routes x)) e
 
   planned_found : (order : List ℕ) (b : ℕ) → Contains order b → places_of (map planned order) b ≡ Some (routes b)
   planned_found [] b (k, lt, is) = absurd (omega arith)
-  planned_found (a ∷ order) b (zero, lt, is) = same_found a b (map planned order) (is a)
+  planned_found (a ∷ order) b (zero, lt, is) = same_found a b (map planned order) is
   planned_found (a ∷ order) b (suc k, lt, is) =
       ⊎_elim (same_found a b (map planned order)) (λ differ. cond-false (eqb a b) (Some (routes a)) _ (ne_eqb a b differ) ∙ planned_found order b (k, omega arith, is)) (cases_eq a b)
 
@@ -80,8 +82,9 @@ honest_succeeds o sound openable plan calls merged =
     let due : Due o at_start.branches (forks_in plan.tree + 0) (calls_of plan.tree) =
     subst (Due o _ _) (append-nil (calls_of plan.tree)) (tree_due o 0 [] 0 [] plan.honest (omega (arith, plan.depth_limit)) none_due) in
     let shows : ToShow o [] (shows_of routes plan.order) end =
-    to_show o routes plan.claimed plan.order [] tt plan.each_once.below plan.each_once.once (All-weaker _ _ (λ _ _. tt) plan.order plan.each_once.below) in
-    let leads : Leads o sound openable at_start calls end = sent o sound openable 0 0 at_start.branches _ [] end merged due shows tt (omega (arith, plan.forks_limit)) in
+    to_show o routes plan.claimed plan.order [] (All-nil (AsPlanned o routes plan.claimed)) plan.each_once.below plan.each_once.once
+    (λ k d lt. All-nil (λ s. s.cart ≡ get_or plan.order k d → ⊥)) in
+    let leads : Leads o sound openable at_start calls end = sent o sound openable 0 0 at_start.branches _ [] end merged due shows (All-nil (λ s. 1 ≤ length s.places)) (omega (arith, plan.forks_limit)) in
     let own : (a : ℕ) → a < carts o → shown_of t a ≡ Some (routes a) =
     λ a lt. ap (λ s. places_of s a) leads.shown ∙ planned_found o routes plan.claimed plan.order a (plan.each_once.every a lt) in
     record {

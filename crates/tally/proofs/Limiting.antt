@@ -1,5 +1,6 @@
 -- How large a tally grows.
 use Rattle.std.proofs.Common.{◌≡◌, ◌≤◌, List, [], ◌∷◌, length, All, refl, subst, arith, length-append}
+use Rattle.std.proofs.lemmas.List.Elements.{All-cons, All-nil}
 use Rattle.tally.specs.CallAnswers.{Reached}
 use Rattle.tally.specs.Calls.{Call, Takes, by_close, by_show, by_split}
 use Rattle.tally.specs.Laws.{WithinLimits}
@@ -26,9 +27,13 @@ stacked_few : (bs : List Branch) → Stacked bs → length bs ≤ 65
 stacked_few [] stack = omega arith
 stacked_few (b ∷ rest) stack = omega arith
 
-stacked_bans : (bs : List Branch) → Stacked bs → All (λ b. (b.depth ≤ 64) × (length b.bans ≡ b.depth)) bs
-stacked_bans [] stack = tt
-stacked_bans (b ∷ rest) stack = ((stack.1, stack.2), stacked_bans rest stack.3)
+-- at most 64 splits lie above the branch, and each left it a ban
+abbrev FewBans : Branch → Type 0
+FewBans b = (b.depth ≤ 64) × (length b.bans ≡ b.depth)
+
+stacked_bans : (bs : List Branch) → Stacked bs → All FewBans bs
+stacked_bans [] stack = All-nil FewBans
+stacked_bans (b ∷ rest) stack = All-cons FewBans b rest (stack.1, stack.2) (stacked_bans rest stack.3)
 
 pub within_limits : (o : Opening) → Sound o → (t : Tally) → Reached o t → WithinLimits t
 within_limits o sound t reached =

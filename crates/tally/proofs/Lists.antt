@@ -13,13 +13,13 @@ module _ {A : Type 0} (P : A → Type 0) where
   Among xs = (x : A) × Contains xs x × P x
 
   pub among_first : (x : A) (xs : List A) → P x → Among (x ∷ xs)
-  among_first x xs h = (x, (0, omega arith, λ _. refl), h)
+  among_first x xs h = (x, (0, omega arith, refl), h)
 
   pub among_later : (y : A) (xs : List A) → Among xs → Among (y ∷ xs)
   among_later y xs (x, (k, lt, is), h) = (x, (suc k, omega arith, is), h)
 
   pub among_cases : (y : A) (xs : List A) → Among (y ∷ xs) → P y ⊎ Among xs
-  among_cases y xs (x, (zero, lt, is), h) = inl (subst P (sym (is y)) h)
+  among_cases y xs (x, (zero, lt, is), h) = inl (subst P (sym is) h)
   among_cases y xs (x, (suc k, lt, is), h) = inr (x, (k, omega arith, is), h)
 
 not_or : (x y : Bool) → not (x || y) ≡ (not x && not y)

@@ -19,9 +19,9 @@ module _ (o : Opening) where
 
   decides_apart : Decides (every_below (λ a. every_below (are_apart o a) a) (carts o)) (Apart o)
   decides_apart =
-      Decides-like _ (λ later a b in-a in_b differ. ⊎_elim (λ same. absurd (differ same))
-      (⊎_elim (λ before. let h = later b in_b a before in (λ e. h.0 (sym e), λ e. h.1 (sym e))) (λ after. later a in-a b after)) (cases_order a b))
-      (λ apart a in-a b before. apart a b in-a (omega arith) (omega arith))
+      Decides-like _ (λ later a b in_a in_b differ. ⊎_elim (λ same. absurd (differ same))
+      (⊎_elim (λ before. let h = later b in_b a before in (λ e. h.0 (sym e), λ e. h.1 (sym e))) (λ after. later a in_a b after)) (cases_order a b))
+      (λ apart a in_a b before. apart a b in_a (omega arith) (omega arith))
       (decides_every_below _ _ (λ a. decides_every_below _ _ (λ b. Decides-and _ _ (Decides-not _ (Decides-eqb _ _)) (Decides-not _ (Decides-eqb _ _))) a) (carts o))
 
   barred_or_openable : (e : Refusal) → BarredBy o e → Openable o → ⊥

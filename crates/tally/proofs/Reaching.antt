@@ -1,10 +1,10 @@
 -- What taken calls keep holds of every tally reached.
-use Rattle.std.proofs.Common.{◌≡◌, List, [], ◌∷◌, ◌++◌, Ok, Err, Result, refl, subst}
-use Rattle.std.proofs.lemmas.List.Elements.{All-push}
+use Rattle.std.proofs.Common.{◌≡◌, ◌≤◌, List, [], ◌∷◌, ◌++◌, length, Ok, Err, Result, refl, subst}
+use Rattle.std.proofs.lemmas.List.Elements.{All-nil, All-push}
 use Rattle.tally.specs.CallAnswers.{Reached, after, after_all, called, tally_of}
 use Rattle.tally.specs.Calls.{Call, Takes, by_close, by_show, by_split}
 use Rattle.tally.specs.Openings.{Opening, Openable, Sound}
-use Rattle.tally.specs.Tallies.{Tally, at_start}
+use Rattle.tally.specs.Tallies.{Shown, Tally, at_start}
 use Rattle.tally.specs.declared.refusal.Refusal.{Refusal}
 use Rattle.tally.proofs.Taking.{Filled, call_exactly}
 
@@ -16,8 +16,11 @@ after_more o t (d ∷ cs) c = after_more o (after o t d) cs c
 
 -- ---- what is kept
 
+abbrev Filling : Shown → Type 0
+Filling s = 1 ≤ length s.places
+
 filled_kept : (o : Opening) (t : Tally) (c : Call) (u : Tally) → Takes o t c u → Filled t.shown → Filled u.shown
-filled_kept o t c u (by_show h) filled = All-push _ t.shown _ filled h.route.some
+filled_kept o t c u (by_show h) filled = All-push Filling t.shown _ filled h.route.some
 filled_kept o t c u (by_split is deep many h) filled = filled
 filled_kept o t c u (by_close is none) filled = filled
 
@@ -34,7 +37,7 @@ module _ (o : Opening) (sound : Sound o) (P : Tally → Type 0) (keeps : (t : Ta
   kept_after_all (c ∷ cs) t h = kept_after_all cs (after o t c) (kept_after t c h)
 
   pub kept : P at_start → (t : Tally) → Reached o t → P t
-  kept begins t (cs, is) = subst P is (kept_after_all cs at_start (tt, begins)).1
+  kept begins t (cs, is) = subst P is (kept_after_all cs at_start (All-nil Filling, begins)).1
 
 pub filled : (o : Opening) → Sound o → (t : Tally) → Reached o t → Filled t.shown
-filled o sound = kept o sound (λ t. Filled t.shown) (λ t c u _. filled_kept o t c u) tt
+filled o sound = kept o sound (λ t. Filled t.shown) (λ t c u _. filled_kept o t c u) (All-nil Filling)

@@ -3,7 +3,7 @@ use Rattle.std.proofs.Common.{◌≡◌, List, All, Contains, sym, subst, ⊎_el
 use Rattle.motion.specs.Listed.{place_at}
 use Rattle.motion.specs.Routes.{Conflict}
 use Rattle.motion.proofs.Conflicting.{conflict_sym}
-use Rattle.std.proofs.lemmas.List.Elements.{All-contains, All-push, Contains-push_cases}
+use Rattle.std.proofs.lemmas.List.Elements.{All-contains, All-nil, All-push, Contains-push_cases}
 use Rattle.tally.specs.CallAnswers.{Reached}
 use Rattle.tally.specs.Calls.{Call, Takes, by_close, by_show, by_split}
 use Rattle.tally.specs.Openings.{Opening, RouteOf, Sound}
@@ -18,7 +18,7 @@ module _ (o : Opening) where
 
   well_kept : (t : Tally) (c : Call) (u : Tally) → Takes o t c u → ShownWell t.shown → ShownWell u.shown
   well_kept t c u (by_show {a = a} {ps = ps} h) well = record {
-    are_routes = All-push _ t.shown new well.are_routes h.route;
+    are_routes = All-push (λ s. RouteOf o s.cart s.places) t.shown new well.are_routes h.route;
     free = λ s v has-s has-v differ. ⊎_elim
         (λ old-s. ⊎_elim (λ old-v. well.free s v old-s old-v differ)
         (λ is-v clash. apart s old-s (conflict_sym _ _ (subst (λ x. Conflict (place_at s.places) (place_at x.places)) (sym is-v) clash)))
@@ -33,9 +33,9 @@ module _ (o : Opening) where
       new = record { cart = a; places = ps }
 
       apart : (s : Shown) → Contains t.shown s → Conflict (place_at ps) (place_at s.places) → ⊥
-      apart s has = All-contains _ t.shown s h.free has
+      apart s has = All-contains (λ s. Conflict (place_at ps) (place_at s.places) → ⊥) t.shown s h.free has
   well_kept t c u (by_split is deep many h) well = well
   well_kept t c u (by_close is none) well = well
 
   pub shown_well : Sound o → (t : Tally) → Reached o t → ShownWell t.shown
-  shown_well sound = kept o sound (λ t. ShownWell t.shown) (λ t c u _. well_kept t c u) (record { are_routes = tt; free = λ s u has. absurd (has_none s has) })
+  shown_well sound = kept o sound (λ t. ShownWell t.shown) (λ t c u _. well_kept t c u) (record { are_routes = All-nil (λ s. RouteOf o s.cart s.places); free = λ s u has. absurd (has_none s has) })

@@ -1,5 +1,5 @@
 -- A call answers with a tally exactly when it is taken and leads there.
-use Rattle.std.proofs.Common.{◌≡◌, ℕ, ◌<◌, ◌≤◌, true, not, ◌||◌, leb, ◌↔◌, List, [], ◌∷◌, length, take, Some, None, Ok, Decides, All, Option, sym, refl, ap, ◌∙◌, subst}
+use Rattle.std.proofs.Common.{◌≡◌, ℕ, ◌<◌, ◌≤◌, true, not, ◌||◌, leb, ◌↔◌, List, [], ◌∷◌, length, get_or, take, Some, None, Ok, Decides, All, Option, sym, refl, ap, ◌∙◌, subst}
 use Rattle.floor.specs.Tests.{some}
 use Rattle.floor.proofs.Chains.{bind_at, ok_no_err, ok_same, passed, passes}
 use Rattle.floor.proofs.Deciding.{decides_itself, false_from_decides}
@@ -8,11 +8,9 @@ use Rattle.motion.specs.Routes.{Conflict}
 use Rattle.motion.proofs.Conflicting.{conflict_test_tells}
 use Rattle.motion.proofs.Listing.{route_test_tells}
 use Rattle.motion.specs.declared.ban.Ban.{Ban}
-use Rattle.search.proofs.Each.{all_both}
 use Rattle.search.proofs.Sets.{decides_cheaper}
 use Rattle.search.specs.Least.{cheaper}
 use Rattle.std.specs.Result.{result_map_both}
-use Rattle.std.proofs.lemmas.List.Elements.{All-weaker}
 use Rattle.std.proofs.lemmas.Bool.{leb-false, lt-leb, not-false, not_from_false, not_from_true, not-true, or_from, or_parts}
 use Rattle.std.proofs.lemmas.Bool.Decides.{Decides-eqb, Decides-like, not_from_Decides}
 use Rattle.tally.specs.CallAnswers.{called, closing, current, operands, showing, splitting, tested}
@@ -34,8 +32,8 @@ Filled shown = All (λ s. 1 ≤ length s.places) shown
 decides_free : (ps : List ℕ) → 1 ≤ length ps → (shown : List Shown) → Filled shown
     → Decides (not (some (λ s. in_conflict ps s.places) shown)) (All (λ s. Conflict (place_at ps) (place_at s.places) → ⊥) shown)
 decides_free ps some-places shown filled =
-    Decides-like _ (λ passes. All-weaker _ _ (λ s h clash. h.1 ((tells s h.0).1 clash)) shown (all_both _ _ shown filled passes))
-    (λ free. All-weaker _ _ (λ s h fails. h.1 ((tells s h.0).0 fails)) shown (all_both _ _ shown filled free))
+    Decides-like _ (λ passes k d lt clash. passes k d lt ((tells (get_or shown k d) (filled k d lt)).1 clash))
+    (λ free k d lt fails. free k d lt ((tells (get_or shown k d) (filled k d lt)).0 fails))
     (decides_none _ (λ s. in_conflict ps s.places ≡ true) (λ s. decides_itself _) shown)
   where
     tells : (s : Shown) → 1 ≤ length s.places → Decides (in_conflict ps s.places) (Conflict (place_at ps) (place_at s.places))

@@ -1,5 +1,5 @@
 -- An opening, what it has to be, and its tests.
-use Rattle.std.specs.Prelude.{◌≡◌, ℕ, ◌<◌, ◌≤◌, Bool, not, ◌&&◌, List, length, Ok, Result, MatchResult, ◌==◌, ◌≢◌, nat_le, nat_lt}
+use Rattle.std.specs.Prelude.{ℕ, ◌<◌, ◌≤◌, Bool, not, ◌&&◌, List, length, Ok, Result, MatchResult, ◌==◌, ◌≢◌, nat_le, nat_lt}
 use Rattle.floor.specs.Checks.{refuse, ◌>>◌}
 use Rattle.floor.specs.Floor.{Floor, Lawful}
 use Rattle.floor.specs.Tests.{every_below}
