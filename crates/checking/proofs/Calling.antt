@@ -23,7 +23,7 @@ use Rattle.tally.specs.declared.refusal.Refusal.{Refusal}
 use Rattle.tally.specs.declared.refusal.Refusal.TheVariants.{NoCart, Shown, InConflict, NothingOpen, Full, Letter, CutShort, CheaperSet}
 use Rattle.checking.specs.Books.{tally_in}
 use Rattle.checking.specs.Checks.{Answers}
-use Rattle.checking.specs.OpenBranches.{branch, current, rights}
+use Rattle.checking.specs.OpenBranches.{current, rights}
 use Rattle.checking.specs.declared.book.Book.{Book}
 use Rattle.checking.proofs.Exits.{refused_so, taken_so, tested_so, close_nothing, close_cheaper, close_taken, split_nothing, split_full, split_unknown, split_short, split_refused, split_taken, show_no_cart, show_again, show_no_route, show_conflict, show_taken, route_answer}
 

@@ -6,19 +6,19 @@ use Rattle.checking.proofs.opened.opened.Goals as goal
 pub returns-then-trips-lt1 : goal.returns-then-trips-lt1
 returns-then-trips-lt1 g c rules card = opened_by _ false _ _ _ (grind (arith, nat_tests)) refl refl refl
 
-pub returns-then-claim-gt-MOST-CLAIM : goal.returns-then-claim-gt-MOST-CLAIM
-returns-then-claim-gt-MOST-CLAIM g c rules card = opened_by _ true false _ _ (grind (arith, nat_tests)) (grind (arith, nat_tests)) refl refl
+pub returns-then-claim-gt-MOST_CLAIM : goal.returns-then-claim-gt-MOST_CLAIM
+returns-then-claim-gt-MOST_CLAIM g c rules card = opened_by _ true false _ _ (grind (arith, nat_tests)) (grind (arith, nat_tests)) refl refl
 
-pub returns-then-not-are-on-floor : goal.returns-then-not-are-on-floor
-returns-then-not-are-on-floor g c rules card =
-    opened_by _ true true false _ (grind (arith, nat_tests)) (grind (arith, nat_tests)) (c.if-not-are-on-floor.ensures rules c.args.claim card) refl
+pub returns-then-not-are_on_floor : goal.returns-then-not-are_on_floor
+returns-then-not-are_on_floor g c rules card =
+    opened_by _ true true false _ (grind (arith, nat_tests)) (grind (arith, nat_tests)) (c.if-not-are_on_floor.ensures rules c.args.claim card) refl
 
-pub returns-then-not-are-apart : goal.returns-then-not-are-apart
-returns-then-not-are-apart g c rules card =
-    opened_by _ true true true false (grind (arith, nat_tests)) (grind (arith, nat_tests)) (c.if-not-are-on-floor.ensures rules c.args.claim card)
-    (c.if-not-are-apart.ensures (g.M.FloorMap.floor c.args.map.now) rules c.args.claim card)
+pub returns-then-not-are_apart : goal.returns-then-not-are_apart
+returns-then-not-are_apart g c rules card =
+    opened_by _ true true true false (grind (arith, nat_tests)) (grind (arith, nat_tests)) (c.if-not-are_on_floor.ensures rules c.args.claim card)
+    (c.if-not-are_apart.ensures (g.M.FloorMap.floor c.args.map.now) rules c.args.claim card)
 
 pub returns : goal.returns
 returns g c rules card =
-    opened_by _ true true true true (grind (arith, nat_tests)) (grind (arith, nat_tests)) (c.if-not-are-on-floor.ensures rules c.args.claim card)
-    (c.if-not-are-apart.ensures (g.M.FloorMap.floor c.args.map.now) rules c.args.claim card)
+    opened_by _ true true true true (grind (arith, nat_tests)) (grind (arith, nat_tests)) (c.if-not-are_on_floor.ensures rules c.args.claim card)
+    (c.if-not-are_apart.ensures (g.M.FloorMap.floor c.args.map.now) rules c.args.claim card)

@@ -16,4 +16,4 @@ loop-self-preserved c =
     let b = c.loop-self.self in
     let inv = c.loop-self.invariant in
     let whole : b.depth - 1 + 1 ≡ b.depth = omega arith in
-    (sym (rights_none b.bans b.others (b.depth - 1) c.in-default.is) ∙ ap (rights b.bans b.others) whole ∙ inv.0, inv.1)
+    (sym (rights_none b.bans b.others (b.depth - 1) c.in_default.is) ∙ ap (rights b.bans b.others) whole ∙ inv.0, inv.1)

@@ -4,12 +4,12 @@ use Rattle.checking.specs.OpenBranches.{current_bans}
 use Rattle.checking.proofs.Calling.{nothing_to_close, cheaper_found, branch_closed}
 use Rattle.checking.proofs.check.Check.close.Goals as goal
 
-pub returns-then-not-is-open : goal.returns-then-not-is-open
-returns-then-not-is-open g c =
+pub returns-then-not-is_open : goal.returns-then-not-is_open
+returns-then-not-is_open g c =
     let self = c.args.self.now in
     let o = opening (g.M.FloorMap.floor self.terms.map.now) (g.R.SplitRule.rules self.terms.rules.now) self.terms.trips.now self.terms.claim self.terms.card in
     record {
-      answers = nothing_to_close o self.book (c.in-ok-opened.ensures o.rules o.card) (c.if-not-is-open.ensures ∙ ap (λ x. x.open) c.branches.ensures);
+      answers = nothing_to_close o self.book (c.in_ok-opened.ensures o.rules o.card) (c.if-not-is_open.ensures ∙ ap (λ x. x.open) c.branches.ensures);
       unchanged = refl;
       still = refl;
     }
@@ -19,7 +19,7 @@ returns-then-cheaper g c =
     let self = c.args.self.now in
     let o = opening (g.M.FloorMap.floor self.terms.map.now) (g.R.SplitRule.rules self.terms.rules.now) self.terms.trips.now self.terms.claim self.terms.card in
     record {
-      answers = cheaper_found o self.book (c.in-ok-opened.ensures o.rules o.card) (c.if-not-is-open.ensures ∙ ap (λ x. x.open) c.branches.ensures)
+      answers = cheaper_found o self.book (c.in_ok-opened.ensures o.rules o.card) (c.if-not-is_open.ensures ∙ ap (λ x. x.open) c.branches.ensures)
           _ (c.bans-bans.ensures ∙ ap current_bans c.branches-2.ensures) c.if-cheaper.ensures.computed;
       unchanged = refl;
       still = refl;
@@ -30,7 +30,7 @@ returns g c =
     let self = c.args.self.now in
     let o = opening (g.M.FloorMap.floor self.terms.map.now) (g.R.SplitRule.rules self.terms.rules.now) self.terms.trips.now self.terms.claim self.terms.card in
     record {
-      answers = branch_closed o self.book (c.in-ok-opened.ensures o.rules o.card) (c.if-not-is-open.ensures ∙ ap (λ x. x.open) c.branches.ensures)
+      answers = branch_closed o self.book (c.in_ok-opened.ensures o.rules o.card) (c.if-not-is_open.ensures ∙ ap (λ x. x.open) c.branches.ensures)
           _ (c.bans-bans.ensures ∙ ap current_bans c.branches-2.ensures) _ c.if-cheaper.ensures.computed c.close.ensures;
       unchanged = tt;
       still = refl;
