@@ -4,7 +4,7 @@ use Rattle.std.proofs.Common.{inl, inr, ⊎_elim, sym, arith}
 use Rattle.floor.specs.Floor.{Joined, Lawful}
 use Rattle.floor.proofs.Neighbours.{has_from_joined, joined_from_has}
 use Rattle.std.proofs.lemmas.Nat.{mod_below, mul-le}
-use Rattle.std.proofs.lemmas.List.Elements.{All-contains, Contains-append_right}
+use Rattle.std.proofs.lemmas.List.Elements.{All-cons, All-contains, All-nil, Contains-append_right}
 use Rattle.std.proofs.lemmas.List.{get_or_past}
 use Rattle.std.proofs.lemmas.Bool.{both_ways, cases_lt, cond_both, eqb-false, le-ltb, ltb-false, ne_eqb}
 use Rattle.maps.specs.Grids.{Grid, NeighboursAreBeside, NextTo, SideBySide, Sized, above, around, below, beside, free_at, grid_floor, left, right}
@@ -18,7 +18,7 @@ module _ (width p : ℕ) where
   module _ (P : ℕ → Type 0) where
     all_from_right : ((p % width + 1 ≢ width) → P (p + 1)) → P (p + width) → All P (right width p ++ below width p)
     all_from_right at_right at-below =
-        all_unless (p + 1) (below width p) P _ (λ e. at_right (eqb-false (p % width + 1) width e)) (at-below, tt)
+        all_unless (p + 1) (below width p) P _ (λ e. at_right (eqb-false (p % width + 1) width e)) (All-cons P (p + width) [] at-below (All-nil P))
 
     all_from_left : ((p % width ≢ 0) → P (p - 1)) → ((p % width + 1 ≢ width) → P (p + 1)) → P (p + width) → All P (left width p ++ (right width p ++ below width p))
     all_from_left at_left at_right at-below =
@@ -40,13 +40,13 @@ module _ (width : ℕ) (some : 1 ≤ width) (p : ℕ) where
   beside_differ =
       let under = mod_below p width some in
       differ_unless (p - width) _ _
-      (λ e. let up = ltb-false p width e in all_from_left width p _ (λ inner is. omega arith) (λ inner is. omega arith) (λ is. omega arith))
-      (differ_unless (p - 1) _ _ (λ e. all_from_right width p _ (λ inner is. omega arith) (λ is. omega arith))
-      (differ_unless (p + 1) _ _ (λ e. let inner = eqb-false (p % width + 1) width e in (λ is. omega arith, tt)) (tt, tt)))
+      (λ e. let up = ltb-false p width e in all_from_left width p (λ y. p - width ≢ y) (λ inner is. omega arith) (λ inner is. omega arith) (λ is. omega arith))
+      (differ_unless (p - 1) _ _ (λ e. all_from_right width p (λ y. p - 1 ≢ y) (λ inner is. omega arith) (λ is. omega arith))
+      (differ_unless (p + 1) _ _ (λ e. let inner = eqb-false (p % width + 1) width e in All-cons (λ y. p + 1 ≢ y) (p + width) [] (λ is. omega arith) (All-nil (λ y. p + 1 ≢ y))) (All-nil (λ y. p + width ≢ y), tt)))
 
   all_side_by_side : All (SideBySide width p) (beside width p)
   all_side_by_side =
-      all_beside width p _
+      all_beside width p (SideBySide width p)
       (λ up. let step = step_down_from_sum width some (p - width) p (omega arith) in inr (sym step.0, inr step.1))
       (λ inner. let step = step_right_from_previous width some p inner in inl (sym step.0, inr step.1))
       (λ inner. let step = step_right_to_next width some p inner in inl (step.0, inl step.1))
@@ -62,7 +62,7 @@ module _ (width : ℕ) (some : 1 ≤ width) (p : ℕ) where
       Contains-append_right (above width p) _ q (has_unless (p - 1) _ _ q (ne_eqb (p % width) 0 (omega arith)) (omega arith))
   has_beside q (inr (column, inl next)) =
       let is = sum_from_step_down width p q (column, next) in
-      Contains-append_right (above width p) _ q (Contains-append_right (left width p) _ q (Contains-append_right (right width p) _ q (0, omega arith, λ d. is)))
+      Contains-append_right (above width p) _ q (Contains-append_right (left width p) _ q (Contains-append_right (right width p) _ q (0, omega arith, is)))
   has_beside q (inr (column, inr next)) =
       let is = sum_from_step_down width q p (sym column, next) in
       has_unless (p - width) _ _ q (le-ltb p width (omega arith)) (omega arith)
@@ -95,7 +95,7 @@ module _ (g : Grid) (sized : Sized g) where
       from_joined joined =
           let listed = has_from_cond (free_at g p) _ q (has_from_joined (grid_floor g) p q joined) in
           let kept = has_from_kept_by (free_at g) (beside g.width p) q listed.1 in
-          (listed.0, kept.0, All-contains _ _ q (all_side_by_side g.width sized.some_columns p) kept.1)
+          (listed.0, kept.0, All-contains (SideBySide g.width p) (beside g.width p) q (all_side_by_side g.width sized.some_columns p) kept.1)
 
       to_joined : (free_at g p ≡ true) × (free_at g q ≡ true) × SideBySide g.width p q → Joined (grid_floor g) p q
       to_joined (free-p, free-q, side) =

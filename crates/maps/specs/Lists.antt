@@ -3,7 +3,7 @@
 use Rattle.std.specs.Prelude.{◌≡◌, ℕ, zero, suc, ◌+◌, ◌≤◌, Bool, true, false, cond, not, List, [], ◌∷◌, ◌++◌, length, All, Contains, filter, ◌≢◌, refl}
 use Rattle.std.proofs.Common.{sym, ap, arith}
 use Rattle.maps.specs.Once.{Once}
-use Rattle.std.proofs.lemmas.List.Elements.{All-weaker, All-get_or, All-contains, All-contains_itself, All-filter, Contains-append_right, filter_passes}
+use Rattle.std.proofs.lemmas.List.Elements.{All-nil, All-cons, All-weaker, All-get_or, All-contains, All-contains_itself, All-filter, Contains-append_right, filter_passes}
 use Rattle.std.proofs.lemmas.List.Filters.{length-filter_both}
 use Rattle.std.proofs.lemmas.Bool.{both_ways, cond_both, false≢true, true≢false}
 
@@ -12,17 +12,19 @@ use Rattle.std.proofs.lemmas.Bool.{both_ways, cond_both, false≢true, true≢fa
 module _ {X : Type 0} (test : X → Bool) where
   pub has_from_kept_by : (xs : List X) (x : X) → Contains (filter test xs) x → (test x ≡ true) × Contains xs x
   has_from_kept_by xs x h =
-      (All-contains _ (filter test xs) x (filter_passes test xs) h, All-contains _ (filter test xs) x (All-filter test (Contains xs) xs (All-contains_itself xs)) h)
+      (All-contains (λ y. test y ≡ true) (filter test xs) x (filter_passes test xs) h, All-contains (Contains xs) (filter test xs) x (All-filter test (Contains xs) xs (All-contains_itself xs)) h)
 
   each_kept : (xs : List X) → All (λ x. test x ≡ true → Contains (filter test xs) x) xs
-  each_kept [] = tt
+  each_kept [] = All-nil (λ x. test x ≡ true → Contains [] x)
   each_kept (x ∷ xs) =
       cond_both (test x) (x ∷ filter test xs) (filter test xs) (λ kept. All (λ y. test y ≡ true → Contains kept y) (x ∷ xs))
-      (λ _. (λ _. (0, omega arith, λ d. refl), All-weaker _ _ (λ y h passes. Contains-append_right (x ∷ []) _ y (h passes)) xs (each_kept xs)))
-      (λ fails. (λ passes. absurd (both_ways _ fails passes), each_kept xs))
+      (λ _. let Kept : X → Type 0 = λ y. test y ≡ true → Contains (x ∷ filter test xs) y in
+      All-cons Kept x xs (λ _. (0, omega arith, refl))
+      (All-weaker (λ y. test y ≡ true → Contains (filter test xs) y) Kept (λ y h passes. Contains-append_right (x ∷ []) (filter test xs) y (h passes)) xs (each_kept xs)))
+      (λ fails. All-cons (λ y. test y ≡ true → Contains (filter test xs) y) x xs (λ passes. absurd (both_ways _ fails passes)) (each_kept xs))
 
   pub kept_by_has : (xs : List X) (x : X) → test x ≡ true → Contains xs x → Contains (filter test xs) x
-  kept_by_has xs x passes h = All-contains _ xs x (each_kept xs) h passes
+  kept_by_has xs x passes h = All-contains (λ y. test y ≡ true → Contains (filter test xs) y) xs x (each_kept xs) h passes
 
   pub length_kept_by_most : (xs : List X) → length (filter test xs) ≤ length xs
   length_kept_by_most xs = omega (arith, length-filter_both test (λ x. not (test x)) (λ _. refl) xs)
@@ -36,14 +38,14 @@ Differ (x ∷ xs) = All (λ y. x ≢ y) xs × Differ xs
 pub once_from_differ : (xs : List ℕ) → Differ xs → Once xs
 once_from_differ [] h i j hi hj e = absurd (omega arith)
 once_from_differ (x ∷ xs) h zero zero hi hj e = refl
-once_from_differ (x ∷ xs) h zero (suc j) hi hj e = absurd (All-get_or _ xs j 0 (omega arith) h.0 e)
-once_from_differ (x ∷ xs) h (suc i) zero hi hj e = absurd (All-get_or _ xs i 0 (omega arith) h.0 (sym e))
+once_from_differ (x ∷ xs) h zero (suc j) hi hj e = absurd (All-get_or (λ y. x ≢ y) xs j 0 (omega arith) h.0 e)
+once_from_differ (x ∷ xs) h (suc i) zero hi hj e = absurd (All-get_or (λ y. x ≢ y) xs i 0 (omega arith) h.0 (sym e))
 once_from_differ (x ∷ xs) h (suc i) (suc j) hi hj e = ap suc (once_from_differ xs h.1 i j (omega arith) (omega arith) e)
 
 pub differ_kept_by : (test : ℕ → Bool) (xs : List ℕ) → Differ xs → Differ (filter test xs)
 differ_kept_by test [] h = tt
 differ_kept_by test (x ∷ xs) h =
-    cond_both (test x) (x ∷ filter test xs) (filter test xs) Differ (λ _. (All-filter test _ xs h.0, differ_kept_by test xs h.1))
+    cond_both (test x) (x ∷ filter test xs) (filter test xs) Differ (λ _. (All-filter test (λ y. x ≢ y) xs h.0, differ_kept_by test xs h.1))
     (λ _. differ_kept_by test xs h.1)
 
 -- ---- a list that is there only under a test
@@ -61,7 +63,7 @@ cond_has false xs x on h = absurd (false≢true on)
 module _ (x : ℕ) (ys : List ℕ) where
   pub all_unless : (P : ℕ → Type 0) (b : Bool) → (b ≡ false → P x) → All P ys → All P (cond b [] (x ∷ []) ++ ys)
   all_unless P true h k = k
-  all_unless P false h k = (h refl, k)
+  all_unless P false h k = All-cons P x ys (h refl) k
 
   pub differ_unless : (b : Bool) → (b ≡ false → All (λ y. x ≢ y) ys) → Differ ys → Differ (cond b [] (x ∷ []) ++ ys)
   differ_unless true h k = k
@@ -69,7 +71,7 @@ module _ (x : ℕ) (ys : List ℕ) where
 
   pub has_unless : (b : Bool) (y : ℕ) → b ≡ false → x ≡ y → Contains (cond b [] (x ∷ []) ++ ys) y
   has_unless true y off is = absurd (true≢false off)
-  has_unless false y off is = (0, omega arith, λ d. is)
+  has_unless false y off is = (0, omega arith, is)
 
   pub length_unless : (b : Bool) → length (cond b [] (x ∷ []) ++ ys) ≤ length ys + 1
   length_unless true = omega arith

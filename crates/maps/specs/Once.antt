@@ -2,7 +2,7 @@
 use Rattle.std.specs.Prelude.{◌≡◌, ℕ, ◌<◌, List, [], ◌∷◌, ◌++◌, length, Contains, slice_index, refl}
 use Rattle.std.proofs.Common.{⊎_elim, sym, ◌∙◌, subst, arith}
 use Rattle.std.proofs.lemmas.List.Elements.{Contains-get_or}
-use Rattle.std.proofs.lemmas.List.{length-append, length_push, get_or_append_left, get_or_push}
+use Rattle.std.proofs.lemmas.List.{length-append, length_push, get_or_append_left, get_or_default, get_or_push}
 use Rattle.std.proofs.lemmas.Bool.{cases_lt}
 
 abbrev pub Once : List ℕ → Type 0
@@ -34,5 +34,5 @@ module _ (xs : List ℕ) (y : ℕ) where
   pub once_new : Once (xs ++ y ∷ []) → Contains xs y → ⊥
   once_new once h =
       let long = length_push xs y in let lt = h.1 in
-      let same : h.0 ≡ length xs = once h.0 (length xs) (omega arith) (omega arith) (get_or_append_left xs (y ∷ []) 0 h.0 lt ∙ h.2 0 ∙ sym (get_or_push xs y 0 (length xs) refl)) in
+      let same : h.0 ≡ length xs = once h.0 (length xs) (omega arith) (omega arith) (get_or_append_left xs (y ∷ []) 0 h.0 lt ∙ get_or_default xs h.0 0 y lt ∙ h.2 ∙ sym (get_or_push xs y 0 (length xs) refl)) in
       omega arith

@@ -2,6 +2,7 @@
 use Rattle.std.specs.Prelude.{◌≡◌, ℕ, ◌⊎◌, List, [], ◌∷◌, ◌++◌, Decides, Contains, ◌≢◌, nat_eq, refl}
 use Rattle.std.proofs.Common.{inl, inr, ⊎_elim, sym, ap, subst, ◌∙◌}
 use Rattle.std.proofs.lemmas.List.{append-nil}
+use Rattle.std.proofs.lemmas.List.Elements.{Decides-contains}
 use Rattle.std.proofs.lemmas.Bool.{cases_eq, cond-true, cond-false, eq-eqb, ne_eqb, true≢false}
 use Rattle.std.proofs.lemmas.Bool.Decides.{Decides-at, Decides-eqb, Decides-or, Decides-like, Decides-by_or}
 use Rattle.maps.specs.Members.{has}
@@ -9,7 +10,8 @@ use Rattle.maps.specs.Networks.{Links, Linked, partners}
 use Rattle.maps.specs.declared.connection.Connection.{Connection}
 
 pub decides_has : (q : ℕ) (xs : List ℕ) → Decides (has q xs) (Contains xs q)
-decides_has q xs = Decides-by_or (λ x. nat_eq x q) (λ x. x ≡ q) (has q) (λ x. Decides-eqb x q) refl (λ _ _. refl) xs
+decides_has q xs =
+    Decides-contains xs q _ (Decides-by_or (λ x. nat_eq x q) (λ x. x ≡ q) (has q) (λ x. Decides-eqb x q) refl (λ _ _. refl) xs)
 
 -- ---- what one connection is to p
 

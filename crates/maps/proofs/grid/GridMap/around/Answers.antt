@@ -9,14 +9,14 @@ use Rattle.maps.specs.Tables.{listed}
 use Rattle.maps.proofs.grid.GridMap.around.Goals as goal
 use Rattle.maps.proofs.grid.GridMap.around.Goals.{then-p-self, else-p-self, then-p-self-ne0, else-p-self-ne0, then-p-self-2, else-p-self-2}
 
-pub returns-then-not-free-at : goal.returns-then-not-free-at
+pub returns-then-not-free_at : goal.returns-then-not-free_at
 unfolding around
-returns-then-not-free-at c = grind arith
+returns-then-not-free_at c = grind arith
 
 kept_beside : (test : ℕ → Bool) (width p : ℕ) → filter test (beside width p) ≡ ((filter test (above width p) ++ filter test (left width p)) ++ filter test (right width p)) ++ filter test (below width p)
 kept_beside test width p = simp (filter-append, append_assoc)
 
-module _ (c : goal.After-with-free) where
+module _ (c : goal.After-with_free) where
   abbrev kept : (ℕ → ℕ → List ℕ) → List ℕ
   kept side = filter (free_at (grid_of c.args.self.now)) (side c.args.self.now.width c.args.p.0)
 

@@ -5,9 +5,9 @@ use Rattle.maps.specs.GridsLemmas.{free_is_on_floor}
 use Rattle.maps.specs.GridMapsLemmas.{map_sized}
 use Rattle.maps.proofs.grid.GridMap.with_free.Goals as goal
 
-pub overflow-cast-q : goal.overflow-cast-q
-overflow-cast-q c =
+pub overflow_cast-q : goal.overflow_cast-q
+overflow_cast-q c =
     let m = c.args.self.now in
-    let on = free_is_on_floor (grid_of m) (map_sized m) c.args.q (sym c.if-free-at.ensures) in
+    let on = free_is_on_floor (grid_of m) (map_sized m) c.args.q (sym c.if-free_at.ensures) in
     let most = mul-le m.height m.width 32 32 m.rows.1 m.columns.1 in
     omega arith

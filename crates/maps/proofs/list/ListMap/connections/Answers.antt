@@ -5,7 +5,7 @@ use Rattle.maps.proofs.list.ListMap.connections.Goals as goal
 
 pub returns : goal.returns
 returns c = record {
-  value = c.as-slice.ensures.value;
+  value = c.as_slice.ensures.value;
   proper = proper_map c.args.self.now;
   linked = neighbours_are_linked (network_of c.args.self.now);
 }

@@ -9,32 +9,31 @@ returns-in-Some c = record { change = (c.in-Some.ensures, refl); proper = joinin
 
 pub with-near-requires : goal.with-near-requires
 with-near-requires c =
-    let fit = fit_first (network_of c.args.self.now) c.args.c c.in-default.ensures in let long = ap length c.row.ensures in
+    let fit = fit_first (network_of c.args.self.now) c.args.c c.in_default.ensures in let long = ap length c.row.ensures in
     omega arith
 
 pub with-far-requires : goal.with-far-requires
 with-far-requires c =
-    let fit = fit_second (network_of c.args.self.now) c.args.c c.in-default.ensures in let long = ap length c.row-2.ensures in
+    let fit = fit_second (network_of c.args.self.now) c.args.c c.in_default.ensures in let long = ap length c.row-2.ensures in
     omega arith
 
-pub index-mut-requires : goal.index-mut-requires
-index-mut-requires c = (fit_first (network_of c.args.self.now) c.args.c c.in-default.ensures).on
+pub index_mut-requires : goal.index_mut-requires
+index_mut-requires c = (fit_first (network_of c.args.self.now) c.args.c c.in_default.ensures).on
 
-pub index-mut-requires-2 : goal.index-mut-requires-2
-index-mut-requires-2 c = (fit_second (network_of c.args.self.now) c.args.c c.in-default.ensures).on
+pub index_mut-requires-2 : goal.index_mut-requires-2
+index_mut-requires-2 c = (fit_second (network_of c.args.self.now) c.args.c c.in_default.ensures).on
 
-pub push-reserved-requires : goal.push-reserved-requires
-push-reserved-requires c = let few = few_more c.args.self.now c.args.c c.in-default.ensures in omega arith
+pub push_reserved-requires : goal.push_reserved-requires
+push_reserved-requires c = let few = few_more c.args.self.now c.args.c c.in_default.ensures in omega arith
 
-pub invariant-of-self : goal.invariant-of-self
-invariant-of-self c =
-    let pushed = c.push-reserved.ensures.items in let few = few_more c.args.self.now c.args.c c.in-default.ensures in (
-      rw pushed (∣ lawful_more c.args.self.now c.args.c c.in-default.ensures ∣₁),
-      (
-        λ p. rw pushed (tied_more c.args.self.now c.args.c c.in-default.ensures c.with-near.result c.with-far.result (cc) (cc) p),
-        (omega arith, (omega arith, tt)),
-      ),
-    )
+pub invariant_of-self : goal.invariant_of-self
+invariant_of-self c =
+    let pushed = c.push_reserved.ensures.items in let few = few_more c.args.self.now c.args.c c.in_default.ensures in record {
+      lawful = rw pushed (∣ lawful_more c.args.self.now c.args.c c.in_default.ensures ∣₁);
+      tied = λ p. rw pushed (tied_more c.args.self.now c.args.c c.in_default.ensures c.with-near.result c.with-far.result (cc) (cc) p);
+      few = omega arith;
+      room = omega arith;
+    }
 
 pub returns : goal.returns
-returns c = record { change = rw c.push-reserved.ensures.items c.in-default.ensures; proper = joining_is_proper }
+returns c = record { change = rw c.push_reserved.ensures.items c.in_default.ensures; proper = joining_is_proper }

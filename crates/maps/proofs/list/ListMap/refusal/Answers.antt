@@ -4,8 +4,8 @@ use Rattle.maps.specs.Refusing.{joining_full, joining_off, joining_twice, joinin
 use Rattle.maps.proofs.list.ListMap.refusal.Goals as goal
 use Rattle.maps.proofs.list.ListMap.refusal.Goals.{then-first-second-via-then-first-second, then-first-second-via-else-first-second+then-has, then-len-ge8-via-then-len-ge8, then-len-ge8-via-else-len-ge8+then-len-ge8-2}
 
-pub returns-then-len-ge-MOST-CONNECTIONS : goal.returns-then-len-ge-MOST-CONNECTIONS
-returns-then-len-ge-MOST-CONNECTIONS c = joining_full (network_of c.args.self.now) c.args.c (omega arith)
+pub returns-then-len-ge-MOST_CONNECTIONS : goal.returns-then-len-ge-MOST_CONNECTIONS
+returns-then-len-ge-MOST_CONNECTIONS c = joining_full (network_of c.args.self.now) c.args.c (omega arith)
 
 pub returns-then-first-places : goal.returns-then-first-places
 returns-then-first-places c =
