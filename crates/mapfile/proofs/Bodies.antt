@@ -9,11 +9,15 @@ use Rattle.mapfile.specs.Faults.{fault}
 use Rattle.mapfile.specs.GridFiles.{before_cells, cell, body}
 use Rattle.mapfile.specs.GridLayout.{IsSign, lines, RowsOf, Wrong, behind_last_row, file_ends, row_too_long, row_too_short, strange_sign, WrongBody}
 use Rattle.mapfile.specs.declared.fault.Fault.{Fault}
-use Rattle.std.proofs.lemmas.List.Elements.{All-push}
+use Rattle.std.proofs.lemmas.List.Elements.{All-head, All-nil, All-push, All-tail}
 use Rattle.std.proofs.lemmas.List.{append-nil, flat_map_more, length-map, length_push, map_push}
 use Rattle.std.proofs.lemmas.Bool.{cond_both, eqb-true, eqb-false, false≢true}
 use Rattle.std.proofs.lemmas.Bool.Decides.{Decides-eqb}
 use Rattle.std.specs.List.{flat_map}
+
+-- one of the rows that `RowsOf` speaks of
+abbrev RowOf : ℕ → List ℕ → Type 0
+RowOf width row = (length row ≡ width) × All IsSign row
 
 abbrev pub cells_of : List (List ℕ) → List Bool
 cells_of rows = flat_map (map is_free) rows
@@ -57,8 +61,8 @@ module _ (start height width : ℕ) (bytes : List ℕ) where
 
   row_read : {done : List (List ℕ)} {part : List ℕ} {left at b : ℕ} {bs : List ℕ} → b ≡ 10 → Reached done part (suc left) 0 at (b ∷ bs) → Reached (done ++ part ∷ []) [] left width (at + 1) bs
   row_read {done} {part} {bs} e r = record {
-    wide = All-push _ done part r.wide (omega (arith, r.broad), r.signs);
-    signs = tt;
+    wide = All-push (RowOf width) done part r.wide (omega (arith, r.broad), r.signs);
+    signs = All-nil IsSign;
     text = simp (joined_push, append_assoc) (r.text ∙ ap (λ c. lines done ++ (part ++ c ∷ bs)) e);
     place = let p = simp length-append at r.place in simp (joined_push, length-append) (omega arith);
     tall = omega (arith, r.tall, length_push done part);
@@ -102,7 +106,7 @@ module _ (start height width : ℕ) (bytes : List ℕ) where
 
     pub rows_tell : (P : List Bool → Type 0) → ((rows : List (List ℕ)) → length rows ≡ height → RowsOf width rows → bytes ≡ lines rows → P (cells_of rows)) →
         MatchResult (body height width width start bytes) P Q
-    rows_tell P read = rows_left_tell P height width start bytes [] [] (record { wide = tt; signs = tt; text = refl; place = omega arith; tall = omega arith; broad = omega arith; closed = λ _. refl })
+    rows_tell P read = rows_left_tell P height width start bytes [] [] (record { wide = All-nil (RowOf width); signs = All-nil IsSign; text = refl; place = omega arith; tall = omega arith; broad = omega arith; closed = λ _. refl })
         (λ rows cells tall wide text all. rw all (read rows tall wide text))
 
 module _ (Q : Fault → Type 0) (width : ℕ) where
@@ -110,14 +114,19 @@ module _ (Q : Fault → Type 0) (width : ℕ) where
       MatchResult (body (suc left) (length row) width at (row ++ 10 ∷ rest)) P Q
   row_passes P left at [] rest signs next = next (at + 1)
   row_passes P left at (b ∷ bs) rest signs next = cell_tells Q P (is_free b) (is_blocked b) (eqb b 10) at _
-      (λ sign. row_passes (λ cells. P (is_free b ∷ cells)) left (at + 1) bs rest signs.1 next) (λ strange. absurd (strange signs.0))
+      (λ sign. row_passes (λ cells. P (is_free b ∷ cells)) left (at + 1) bs rest (All-tail IsSign b bs signs) next) (λ strange. absurd (strange (All-head IsSign b bs signs)))
 
   pub rows_pass : (P : List Bool → Type 0) (at : ℕ) (rows : List (List ℕ)) → RowsOf width rows → P (cells_of rows) → MatchResult (body (length rows) width width at (lines rows)) P Q
   rows_pass P at [] wide read = read
   rows_pass P at (row ∷ rows) wide read =
-      let passes = row_passes P (length rows) at row (lines rows) wide.0.1 (λ m. rows_pass (λ cells. P (map is_free row ++ cells)) m rows wide.1 read) in
-      rw append_assoc (subst (λ columns. MatchResult (body (suc (length rows)) columns width at (row ++ 10 ∷ lines rows)) P Q) wide.0.0 passes)
+      let first = All-head (RowOf width) row rows wide in
+      let others = All-tail (RowOf width) row rows wide in
+      let passes = row_passes P (length rows) at row (lines rows) first.1 (λ m. rows_pass (λ cells. P (map is_free row ++ cells)) m rows others read) in
+      rw append_assoc (subst (λ columns. MatchResult (body (suc (length rows)) columns width at (row ++ 10 ∷ lines rows)) P Q) first.0 passes)
 
 pub length_cells : (width : ℕ) (rows : List (List ℕ)) → RowsOf width rows → length (cells_of rows) ≡ length rows * width
 length_cells width [] wide = omega arith
-length_cells width (row ∷ rows) wide = let others = length_cells width rows wide.1 in simp (length-append, length-map, suc-mul) (omega (arith, wide.0.0))
+length_cells width (row ∷ rows) wide =
+    let first = All-head (RowOf width) row rows wide in
+    let others = length_cells width rows (All-tail (RowOf width) row rows wide) in
+    simp (length-append, length-map, suc-mul) (omega (arith, first.0))

@@ -15,6 +15,7 @@ use Rattle.mapfile.specs.declared.fault.Fault.{Fault}
 use Rattle.mapfile.proofs.Words.{word_back, word_high, word_low}
 use Rattle.std.specs.List.{flat_map}
 use Rattle.std.proofs.lemmas.List.{append-nil, append_assoc}
+use Rattle.std.proofs.lemmas.List.Elements.{All-drop}
 use Rattle.std.proofs.lemmas.Bool.{eqb-true, eqb-false, not-true, not-false, cases_Bool, cond-true, cond-false}
 
 -- the network with more connections
@@ -78,9 +79,12 @@ pub record Reads (n : Network) (bytes : List ℕ) (m : Network) : Type 0 where
   pub whole : m ≡ extended n more
   pub proper : Proper m
 
+bytes_behind_command : (l a b c d : ℕ) (bytes : List ℕ) → Bytes (l ∷ a ∷ b ∷ c ∷ d ∷ bytes) → Bytes bytes
+bytes_behind_command l a b c d bytes low = All-drop (λ x. x < 256) 5 (l ∷ a ∷ b ∷ c ∷ d ∷ bytes) low
+
 command_text : (l a b c d : ℕ) (bytes rest : List ℕ) → Bytes (l ∷ a ∷ b ∷ c ∷ d ∷ bytes) → l ≡ 87 → bytes ≡ rest → l ∷ a ∷ b ∷ c ∷ d ∷ bytes ≡ connection_text (connection a b c d) ++ rest
 command_text l a b c d bytes rest low letter e =
-    ap₂ (λ x bs. x ∷ a ∷ b ∷ c ∷ d ∷ bs) letter e ∙ ap (λ t. t ++ rest) (sym (text_of_operands a b c d low.1.1.0 low.1.1.1.1.0))
+    ap₂ (λ x bs. x ∷ a ∷ b ∷ c ∷ d ∷ bs) letter e ∙ ap (λ t. t ++ rest) (sym (text_of_operands a b c d (low 2 0 (omega arith)) (low 4 0 (omega arith))))
 
 pub connecting_ok : (n : Network) (at : ℕ) (bytes : List ℕ) (m : Network) → Bytes bytes → Proper n → connecting n at bytes ≡ Ok m → Reads n bytes m
 connecting_ok n at [] m low proper h =
@@ -92,7 +96,7 @@ connecting_ok n at (l ∷ a ∷ b ∷ c ∷ []) m low proper h = absurd (ok_no_e
 connecting_ok n at (l ∷ a ∷ b ∷ c ∷ d ∷ bytes) m low proper h =
     let new = connection a b c d in
     let step = command_ok n at l a b c d bytes m h in
-    let rest = connecting_ok (with_connection n new) (at + 5) bytes m low.1.1.1.1.1 ((joining_is_proper n new proper).0 step.1) step.2 in
+    let rest = connecting_ok (with_connection n new) (at + 5) bytes m (bytes_behind_command l a b c d bytes low) ((joining_is_proper n new proper).0 step.1) step.2 in
     record {
       more = new ∷ rest.more;
       text = command_text l a b c d bytes (texts rest.more) low step.0 rest.text;
@@ -184,5 +188,5 @@ connecting_err n at (l ∷ a ∷ b ∷ []) f low proper h = cut_stops n at l (a 
 connecting_err n at (l ∷ a ∷ b ∷ c ∷ []) f low proper h = cut_stops n at l (a ∷ b ∷ c ∷ []) f proper (omega arith) h
 connecting_err n at (l ∷ a ∷ b ∷ c ∷ d ∷ bytes) f low proper h =
     ⊎_elim (λ s. s)
-    (λ step. stops_later n at l a b c d bytes f low step.0 (connecting_err (with_connection n (connection a b c d)) (at + 5) bytes f low.1.1.1.1.1 ((joining_is_proper n (connection a b c d) proper).0 step.1) step.2))
+    (λ step. stops_later n at l a b c d bytes f low step.0 (connecting_err (with_connection n (connection a b c d)) (at + 5) bytes f (bytes_behind_command l a b c d bytes low) ((joining_is_proper n (connection a b c d) proper).0 step.1) step.2))
     (command_err n at l a b c d bytes f proper h)

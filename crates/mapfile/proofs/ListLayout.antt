@@ -13,6 +13,7 @@ use Rattle.mapfile.specs.declared.fault.Fault.{Fault}
 use Rattle.mapfile.proofs.ListCommands.{Stops, extended, texts, letter_from_test, other_letter, cut_cases, blame_ok, blame_err, connecting_ok, connecting_from, connecting_err}
 use Rattle.mapfile.proofs.Words.{word_back, word_high, word_low}
 use Rattle.std.proofs.lemmas.List.{append-nil}
+use Rattle.std.proofs.lemmas.List.Elements.{All-drop}
 
 -- what the bytes begin with, when they begin well
 record Begins (bytes : List ℕ) (n : Network) : Type 0 where
@@ -37,8 +38,8 @@ begins_well (l ∷ a ∷ b ∷ bytes) n fit h =
       low = b;
       rest = bytes;
       text = ap (λ l. l ∷ a ∷ b ∷ bytes) (letter_from_test l 80 letter.0);
-      byte = fit.1.1.0;
-      bytes_left = fit.1.1.1;
+      byte = fit 2 0 (omega arith);
+      bytes_left = All-drop (λ x. x < 256) 3 (l ∷ a ∷ b ∷ bytes) fit;
       founded = founded.0;
       proper = founded.1;
     }

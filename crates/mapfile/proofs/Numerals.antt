@@ -9,6 +9,7 @@ use Rattle.mapfile.specs.GridLayout.{Digit, Numeral, NoNumber, InGauge}
 use Rattle.mapfile.specs.declared.fault.Fault.{Fault}
 use Rattle.std.proofs.lemmas.Bool.{leb-true, le-leb}
 use Rattle.std.proofs.lemmas.Bool.Decides.{Decides-and, Decides-eqb}
+use Rattle.std.proofs.lemmas.List.Elements.{All-cons, All-head, All-nil, All-tail}
 use Rattle.std.specs.List.{slice_get}
 
 decides_between : (low high n : ℕ) → Decides (leb low n && leb n high) ((low ≤ n) × (n ≤ high))
@@ -25,10 +26,10 @@ record More (most value : ℕ) (digits : List ℕ) (n : ℕ) : Type 0 where
   comes : n ≡ fold (λ v b. v * 10 + (b - 48)) value digits
 
 more_further : {most value b : ℕ} {digits : List ℕ} {n : ℕ} → Digit b → More most (value * 10 + (b - 48)) digits n → More (suc most) value (b ∷ digits) n
-more_further digit more = record { few = omega (arith, more.few); decimal = (digit, more.decimal); comes = more.comes }
+more_further {b} {digits} digit more = record { few = omega (arith, more.few); decimal = All-cons Digit b digits digit more.decimal; comes = more.comes }
 
 numeral_from_more : {b : ℕ} {digits : List ℕ} {n : ℕ} → Digit b → More 2 (b - 48) digits n → Numeral (b ∷ digits) n
-numeral_from_more digit more = record { some = omega arith; most = omega (arith, more.few); decimal = (digit, more.decimal); value = rw zero-add more.comes }
+numeral_from_more {b} {digits} digit more = record { some = omega arith; most = omega (arith, more.few); decimal = All-cons Digit b digits digit more.decimal; value = rw zero-add more.comes }
 
 -- at most so many digits up to k, and at k neither a digit that may come nor the line's end
 record NoMore (most : ℕ) (bytes : List ℕ) (k : ℕ) : Type 0 where
@@ -38,18 +39,18 @@ record NoMore (most : ℕ) (bytes : List ℕ) (k : ℕ) : Type 0 where
   departs : IfSome (slice_get bytes k) (λ b. (k < most → Digit b → ⊥) × (b ≡ 10 → ⊥))
 
 no_more_further : {most b : ℕ} {bytes : List ℕ} {k : ℕ} → Digit b → NoMore most bytes k → NoMore (suc most) (b ∷ bytes) (suc k)
-no_more_further {bytes} {k} digit none = record {
+no_more_further {b} {bytes} {k} digit none = record {
   few = omega (arith, none.few);
   there = omega (arith, none.there);
-  digits = (digit, none.digits);
+  digits = All-cons Digit b (take k bytes) digit none.digits;
   departs = some_weaker (slice_get bytes k) _ _ (λ c h. (λ fewer. h.0 (omega arith), h.1)) none.departs;
 }
 
 no_number_from_more : {b : ℕ} {bytes : List ℕ} {k : ℕ} → Digit b → NoMore 2 bytes k → NoNumber (b ∷ bytes) (suc k)
-no_number_from_more {bytes} {k} digit none = record {
+no_number_from_more {b} {bytes} {k} digit none = record {
   most = omega (arith, none.few);
   there = omega (arith, none.there);
-  digits = (digit, none.digits);
+  digits = All-cons Digit b (take k bytes) digit none.digits;
   departs = some_weaker (slice_get bytes k) _ _ (λ c h. (λ fewer. h.0 (omega arith), λ _. h.1)) none.departs;
 }
 
@@ -68,11 +69,11 @@ module _ (P : Number → Type 0) (Q : Fault → Type 0) where
   line_end_tells : (most value at b : ℕ) (bs : List ℕ) → (0 < most → Digit b → ⊥) → Reads P (More most value) at (b ∷ bs) → Stops Q (NoMore most (b ∷ bs)) at →
       MatchResult (cond (eqb b 10) (Ok (record { value = value; behind = record { at = at + 1; bytes = bs } })) (Err (fault Headless at))) P Q
   line_end_tells most value at b bs no_digit read stop = cond_tells P Q _ _ _ (Decides-eqb b 10)
-      (λ end. read [] bs value (at + 1) (record { few = omega arith; decimal = tt; comes = refl }) (omega arith) (ap (λ c. c ∷ bs) end))
-      (λ other. stop 0 at (record { few = omega arith; there = omega arith; digits = tt; departs = (no_digit, other) }) (omega arith))
+      (λ end. read [] bs value (at + 1) (record { few = omega arith; decimal = All-nil Digit; comes = refl }) (omega arith) (ap (λ c. c ∷ bs) end))
+      (λ other. stop 0 at (record { few = omega arith; there = omega arith; digits = All-nil Digit; departs = (no_digit, other) }) (omega arith))
 
   more_digits_tell : (most value at : ℕ) (bytes : List ℕ) → Reads P (More most value) at bytes → Stops Q (NoMore most bytes) at → MatchResult (more_digits most value at bytes) P Q
-  more_digits_tell most value at [] read stop = stop 0 at (record { few = omega arith; there = omega arith; digits = tt; departs = tt }) (omega arith)
+  more_digits_tell most value at [] read stop = stop 0 at (record { few = omega arith; there = omega arith; digits = All-nil Digit; departs = tt }) (omega arith)
   more_digits_tell zero value at (b ∷ bs) read stop = line_end_tells zero value at b bs (λ none _. omega arith) read stop
   more_digits_tell (suc most) value at (b ∷ bs) read stop =
       let further = more_digits_tell most (value * 10 + (b - 48)) (at + 1) bs in
@@ -82,31 +83,31 @@ module _ (P : Number → Type 0) (Q : Fault → Type 0) where
       (λ strange. line_end_tells (suc most) value at b bs (λ _. strange) read stop)
 
   number_tells : (at : ℕ) (bytes : List ℕ) → Reads P Numeral at bytes → Stops Q (NoNumber bytes) at → MatchResult (number_line at bytes) P Q
-  number_tells at [] read stop = stop 0 at (record { most = omega arith; there = omega arith; digits = tt; departs = tt }) (omega arith)
+  number_tells at [] read stop = stop 0 at (record { most = omega arith; there = omega arith; digits = All-nil Digit; departs = tt }) (omega arith)
   number_tells at (b ∷ bs) read stop =
       let further = more_digits_tell 2 (b - 48) (at + 1) bs in
       cond_tells P Q _ _ _ (decides_between 48 57 b)
       (λ digit. further (λ digits rest n m more is text. read (b ∷ digits) rest n m (numeral_from_more digit more) (omega arith) (ap (λ l. b ∷ l) text))
       (λ k m none is. stop (suc k) m (no_number_from_more digit none) (omega arith)))
-      (λ strange. stop 0 at (record { most = omega arith; there = omega arith; digits = tt; departs = (λ _. strange, λ some. absurd (omega arith)) }) (omega arith))
+      (λ strange. stop 0 at (record { most = omega arith; there = omega arith; digits = All-nil Digit; departs = (λ _. strange, λ some. absurd (omega arith)) }) (omega arith))
 
   more_digits_pass : (most value at : ℕ) (digits rest : List ℕ) (n : ℕ) → More most value digits n → Passes P n rest → MatchResult (more_digits most value at (digits ++ 10 ∷ rest)) P Q
   more_digits_pass zero value at [] rest n more passes = rw (← more.comes) (passes (at + 1))
   more_digits_pass (suc most) value at [] rest n more passes = rw (← more.comes) (passes (at + 1))
   more_digits_pass zero value at (d ∷ ds) rest n more passes = absurd (omega (arith, more.few))
   more_digits_pass (suc most) value at (d ∷ ds) rest n more passes =
-      let fewer : More most (value * 10 + (d - 48)) ds n = record { few = omega (arith, more.few); decimal = more.decimal.1; comes = more.comes } in
+      let fewer : More most (value * 10 + (d - 48)) ds n = record { few = omega (arith, more.few); decimal = All-tail Digit d ds more.decimal; comes = more.comes } in
       cond_tells P Q _ _ _ (decides_between 48 57 d)
       (λ digit. more_digits_pass most (value * 10 + (d - 48)) (at + 1) ds rest n fewer passes)
-      (λ strange. absurd (strange more.decimal.0))
+      (λ strange. absurd (strange (All-head Digit d ds more.decimal)))
 
   number_passes : (at : ℕ) (digits rest : List ℕ) (n : ℕ) → Numeral digits n → Passes P n rest → MatchResult (number_line at (digits ++ 10 ∷ rest)) P Q
   number_passes at [] rest n numeral passes = absurd (omega (arith, numeral.some))
   number_passes at (d ∷ ds) rest n numeral passes =
-      let more : More 2 (d - 48) ds n = record { few = omega (arith, numeral.most); decimal = numeral.decimal.1; comes = rw zero-add at numeral.value } in
+      let more : More 2 (d - 48) ds n = record { few = omega (arith, numeral.most); decimal = All-tail Digit d ds numeral.decimal; comes = rw zero-add at numeral.value } in
       cond_tells P Q _ _ _ (decides_between 48 57 d)
       (λ digit. more_digits_pass 2 (d - 48) (at + 1) ds rest n more passes)
-      (λ strange. absurd (strange numeral.decimal.0))
+      (λ strange. absurd (strange (All-head Digit d ds numeral.decimal)))
 
 module _ (P : Number → Type 0) (Q : Fault → Type 0) where
   pub size_tells : (at : ℕ) (bytes : List ℕ) → Reads P (λ digits n. Numeral digits n × InGauge n) at bytes → Stops Q (NoNumber bytes) at →

@@ -12,12 +12,12 @@ loop-i-init c =
 pub returns-in-None : goal.returns-in-None
 returns-in-None c =
     let end = digits_end (c.args.at + 3 - c.loop-i.i) c.loop-i.value c.loop-i.i (drop c.loop-i.i c.args.bytes.now) c.in-None.ensures.reads in
-    record { reads = c.loop-i.invariant.0 ∙ end ∙ c.line-end.ensures.reads; within = c.line-end.ensures.within }
+    record { reads = c.loop-i.invariant.0 ∙ end ∙ c.line_end.ensures.reads; within = c.line_end.ensures.within }
 
 pub loop-i-preserved : goal.loop-i-preserved
 loop-i-preserved c =
-    let digit = c.in-Some-digit-at.ensures in
-    let more = digits_more (c.args.at + 3 - (c.loop-i.i + 1)) c.loop-i.value c.loop-i.i c.in-Some-digit-at.digit c.args.bytes.now digit.reads in
+    let digit = c.in-Some-digit_at.ensures in
+    let more = digits_more (c.args.at + 3 - (c.loop-i.i + 1)) c.loop-i.value c.loop-i.i c.in-Some-digit_at.digit c.args.bytes.now digit.reads in
     let one_less : c.args.at + 3 - c.loop-i.i ≡ suc (c.args.at + 3 - (c.loop-i.i + 1)) = omega arith in
     (cc, omega arith, λ h. omega arith, λ h. omega arith)
 
@@ -25,4 +25,4 @@ pub returns : goal.returns
 returns c =
     let end : c.loop-i.i ≡ c.args.at + 3 = omega arith in
     let none : c.args.at + 3 - c.loop-i.i ≡ 0 = omega arith in
-    record { reads = cc; within = c.line-end-2.ensures.within }
+    record { reads = cc; within = c.line_end-2.ensures.within }

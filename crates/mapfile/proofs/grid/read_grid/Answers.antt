@@ -6,29 +6,29 @@ use Rattle.mapfile.proofs.grid.read_grid.Goals as goal
 use Rattle.std.proofs.Common.{vec_items}
 use Rattle.std.specs.declared.alloc.Global.{Global}
 
-pub returns-in-err-heading : goal.returns-in-err-heading
-returns-in-err-heading c =
+pub returns-in_err-heading : goal.returns-in_err-heading
+returns-in_err-heading c =
     record {
-      reads = answers_fault grid_of _ _ c.in-err-heading.ensures.reads _ c.from-residual.ensures.1;
+      reads = answers_fault grid_of _ _ c.in_err-heading.ensures.reads _ c.from_residual.ensures.1;
       exactly = grid_read_exactly c.args.bytes.now;
       first = grid_fault_is_first c.args.bytes.now;
     }
 
-pub returns-in-err-free : goal.returns-in-err-free
-returns-in-err-free c =
+pub returns-in_err-free : goal.returns-in_err-free
+returns-in_err-free c =
     record {
-      reads = answers_passed grid_of _ (vec_items {Z = Global}) _ _ c.in-ok-heading.ensures.reads c.in-err-free.field-0.0 c.in-err-free.ensures _ c.from-residual-in-err-free.ensures.1;
+      reads = answers_passed grid_of _ (vec_items {Z = Global}) _ _ c.in_ok-heading.ensures.reads c.in_err-free.field-0.0 c.in_err-free.ensures _ c.from_residual-in_err-free.ensures.1;
       exactly = grid_read_exactly c.args.bytes.now;
       first = grid_fault_is_first c.args.bytes.now;
     }
 
 pub unreachable-requires : goal.unreachable-requires
-unreachable-requires c = never_refused c.args.bytes.now c.in-ok-heading.heading c.in-ok-heading.ensures.reads _ c.in-ok-free.ensures _ c.in-Err.ensures.made
+unreachable-requires c = never_refused c.args.bytes.now c.in_ok-heading.heading c.in_ok-heading.ensures.reads _ c.in_ok-free.ensures _ c.in-Err.ensures.made
 
 pub returns : goal.returns
 returns c =
     record {
-      reads = read_as_made c.args.bytes.now c.in-ok-heading.heading c.in-ok-heading.ensures.reads _ c.in-ok-free.ensures _ c.in-Ok.ensures.made;
+      reads = read_as_made c.args.bytes.now c.in_ok-heading.heading c.in_ok-heading.ensures.reads _ c.in_ok-free.ensures _ c.in-Ok.ensures.made;
       exactly = grid_read_exactly c.args.bytes.now;
       first = grid_fault_is_first c.args.bytes.now;
     }
