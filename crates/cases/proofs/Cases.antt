@@ -1,6 +1,7 @@
 -- The worked cases, by computing.
 use Rattle.std.proofs.Common.{refl}
-use Rattle.cases.specs.Worked.{WorkedCases, WorkedSplits}
+use Rattle.cases.specs.Worked.{Holds, splittings, worked, WorkedCases, WorkedSplits}
+use Rattle.std.proofs.lemmas.List.Elements.{All-from_recursion}
 use Rattle.maps.specs.Networks.{founding, joining}
 use Rattle.mapfile.specs.GridFiles.{grid_reading}
 use Rattle.mapfile.specs.ListFiles.{list_reading}
@@ -9,7 +10,7 @@ use Rattle.motion.specs.Listed.{in_conflict}
 
 pub worked_cases : WorkedCases
 unfolding map_reading list_reading grid_reading founding joining in_conflict
-worked_cases = (refl, (refl, (refl, (refl, (refl, (refl, (refl, (refl, (refl, (refl, (refl, tt)))))))))))
+worked_cases = All-from_recursion Holds worked (refl, (refl, (refl, (refl, (refl, (refl, (refl, (refl, (refl, (refl, (refl, tt)))))))))))
 
 pub worked_splits : WorkedSplits
-worked_splits = (refl, (refl, (refl, tt)))
+worked_splits = All-from_recursion Holds splittings (refl, (refl, (refl, tt)))

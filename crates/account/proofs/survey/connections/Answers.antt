@@ -3,8 +3,8 @@ use Rattle.account.specs.Degrees.{degrees}
 use Rattle.account.proofs.Degrees.{degrees_most}
 use Rattle.account.proofs.survey.connections.Goals as goal
 
-pub overflow-add-ends : goal.overflow-add-ends
-overflow-add-ends g c =
+pub overflow_add-ends : goal.overflow_add-ends
+overflow_add-ends g c =
     let f = g.M.FloorMap.floor c.args.map.now in
     let law = g.met.M.FloorMap.lawful c.args.map.now in
     let all = degrees_most f law c.loop-p.p in

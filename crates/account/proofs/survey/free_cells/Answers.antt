@@ -4,7 +4,7 @@ use Rattle.maps.specs.GridMaps.{grid_of}
 use Rattle.std.proofs.lemmas.List.{take_all}
 use Rattle.std.proofs.lemmas.List.Sums.{count_by_more_yes, count_by_more_no}
 use Rattle.account.proofs.survey.free_cells.Goals as goal
-use Rattle.account.proofs.survey.free_cells.Goals.{then-is-free, else-is-free}
+use Rattle.account.proofs.survey.free_cells.Goals.{then-is_free, else-is_free}
 
 pub loop-p-preserved : goal.loop-p-preserved
 loop-p-preserved c =
@@ -12,9 +12,9 @@ loop-p-preserved c =
     let filled = (map_sized c.args.grid.now).filled in
     let inside : c.loop-p.p < length cells = omega arith in
     let inv = c.loop-p.invariant in
-    elim c.if-is-free.branch [
-      | then-is-free w ↦ let more = count_by_more_yes (λ free. free) cells c.loop-p.p false inside (sym w.if-is-free.ensures.value) in let is = w.free-is in (omega arith, omega arith)
-      | else-is-free w ↦ let more = count_by_more_no (λ free. free) cells c.loop-p.p false inside (sym w.if-is-free.ensures.value) in let is = w.free-is in (omega arith, omega arith)
+    elim c.if-is_free.branch [
+      | then-is_free w ↦ let more = count_by_more_yes (λ free. free) cells c.loop-p.p false inside (sym w.if-is_free.ensures.value) in let is = w.free-is in (omega arith, omega arith)
+      | else-is_free w ↦ let more = count_by_more_no (λ free. free) cells c.loop-p.p false inside (sym w.if-is_free.ensures.value) in let is = w.free-is in (omega arith, omega arith)
     ]
 
 pub returns : goal.returns
