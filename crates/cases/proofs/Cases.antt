@@ -1,6 +1,7 @@
 -- The worked cases, by computing.
 use Rattle.std.proofs.Common.{refl}
-use Rattle.cases.specs.Worked.{Holds, splittings, worked, WorkedCases, WorkedSplits}
+use Rattle.cases.specs.Worked.{Holds, worked, WorkedCases}
+use Rattle.cases.specs.WorkedSplits.{GivesSides, splittings, WorkedSplits}
 use Rattle.std.proofs.lemmas.List.Elements.{All-from_recursion}
 use Rattle.maps.specs.Networks.{founding, joining}
 use Rattle.mapfile.specs.GridFiles.{grid_reading}
@@ -13,4 +14,4 @@ unfolding map_reading list_reading grid_reading founding joining in_conflict
 worked_cases = All-from_recursion Holds worked (refl, (refl, (refl, (refl, (refl, (refl, (refl, (refl, (refl, (refl, (refl, tt)))))))))))
 
 pub worked_splits : WorkedSplits
-worked_splits = All-from_recursion Holds splittings (refl, (refl, (refl, tt)))
+worked_splits = All-from_recursion GivesSides splittings (refl, (refl, (refl, tt)))

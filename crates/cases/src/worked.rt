@@ -1,5 +1,6 @@
 ghost use Rattle.std.specs.Prelude.{◌≡◌, length};
-ghost use Rattle.cases.specs.Worked.{splittings, worked, WorkedCases, WorkedSplits};
+ghost use Rattle.cases.specs.Worked.{worked, WorkedCases};
+ghost use Rattle.cases.specs.WorkedSplits.{splittings, WorkedSplits};
 
 // How many cases are worked out by hand and proved to come to what they should.
 pub fn worked_cases() -> usize
