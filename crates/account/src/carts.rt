@@ -46,7 +46,7 @@ pub fn tell_grid_carts(rt: &HostRuntime, map: &AnyMap) -> anyhow::Result<()> {
     tell_carts(rt, map, "cart 1 not at 5 at tick 9", &trips, &[away])
 }
 
-pub fn trip(start: u16, target: u16) -> Trip {
+fn trip(start: u16, target: u16) -> Trip {
     Trip {
         start: Place(start),
         target: Place(target),

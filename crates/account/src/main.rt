@@ -1,10 +1,8 @@
-// An account of a hall in each layout: what its file holds, how short its carts' routes can be, what each
-// letter of a split gives, a whole check call by call, and what becomes of damaged copies of the file.
+// An account of a hall in each layout: what its file holds, how short its carts' routes can be, and what becomes of
+// damaged copies of the file.
 #![tactic(auto)]
 
 mod carts;
-mod checks;
-mod letters;
 mod survey;
 
 use anyhow::anyhow;
@@ -22,14 +20,9 @@ fn run(rt: &HostRuntime) -> anyhow::Result<()> {
     let list = fs::read(rt, "hall.list")?;
     let grid = fs::read(rt, "hall.grid")?;
     tell_file(rt, "hall.list", list.as_slice())?;
-    let map = read_hall(rt, list.as_slice())?;
-    carts::tell_list_carts(rt, &map)?;
-    letters::tell_list_letters(rt, &map)?;
-    checks::tell_check(rt, &map)?;
+    carts::tell_list_carts(rt, &read_hall(rt, list.as_slice())?)?;
     tell_file(rt, "hall.grid", grid.as_slice())?;
-    let map = read_hall(rt, grid.as_slice())?;
-    carts::tell_grid_carts(rt, &map)?;
-    letters::tell_grid_letters(rt, &map)?;
+    carts::tell_grid_carts(rt, &read_hall(rt, grid.as_slice())?)?;
     tell_damaged_list(rt, list.as_slice())?;
     tell_damaged_grid(rt, grid.as_slice())?;
     Ok(())

@@ -1,7 +1,6 @@
 -- The worked cases, by computing.
 use Rattle.std.proofs.Common.{refl}
 use Rattle.cases.specs.Worked.{Holds, worked, WorkedCases}
-use Rattle.cases.specs.WorkedSplits.{GivesSides, splittings, WorkedSplits}
 use Rattle.std.proofs.lemmas.List.Elements.{All-from_recursion}
 use Rattle.maps.specs.Networks.{founding, joining}
 use Rattle.mapfile.specs.GridFiles.{grid_reading}
@@ -12,6 +11,3 @@ use Rattle.motion.specs.Listed.{in_conflict}
 pub worked_cases : WorkedCases
 unfolding map_reading list_reading grid_reading founding joining in_conflict
 worked_cases = All-from_recursion Holds worked (refl, (refl, (refl, (refl, (refl, (refl, (refl, (refl, (refl, (refl, (refl, tt)))))))))))
-
-pub worked_splits : WorkedSplits
-worked_splits = All-from_recursion GivesSides splittings (refl, (refl, (refl, tt)))

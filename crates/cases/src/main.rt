@@ -1,12 +1,11 @@
-// Runs worked cases of routes, conflicts, least lengths and splits, and prints what comes of each.
+// Runs worked cases of routes, conflicts and least lengths, and prints what comes of each.
 #![tactic(auto)]
 
 mod lengths;
 mod routes;
-mod splitting;
 mod worked;
 
-use worked::{worked_cases, worked_splits};
+use worked::worked_cases;
 
 fn main(rt: HostRuntime) -> anyhow::Result<()> {
     run(&rt)
@@ -15,7 +14,5 @@ fn main(rt: HostRuntime) -> anyhow::Result<()> {
 fn run(rt: &HostRuntime) -> anyhow::Result<()> {
     println!(rt; "{} worked cases are proved", worked_cases())?;
     routes::run(rt)?;
-    lengths::run(rt)?;
-    println!(rt; "{} worked splits are proved", worked_splits())?;
-    splitting::run(rt)
+    lengths::run(rt)
 }

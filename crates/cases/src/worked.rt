@@ -1,6 +1,5 @@
 ghost use Rattle.std.specs.Prelude.{◌≡◌, length};
 ghost use Rattle.cases.specs.Worked.{worked, WorkedCases};
-ghost use Rattle.cases.specs.WorkedSplits.{splittings, WorkedSplits};
 
 // How many cases are worked out by hand and proved to come to what they should.
 pub fn worked_cases() -> usize
@@ -8,12 +7,4 @@ pub fn worked_cases() -> usize
     ensures all { WorkedCases }
 {
     11
-}
-
-// How many splits are worked out by hand and proved to come to what they should.
-pub fn worked_splits() -> usize
-    ensures count { result ≡ length splittings }
-    ensures all { WorkedSplits }
-{
-    3
 }

@@ -30,9 +30,12 @@ module _ (f : Floor) (trips : List Trip) (bans : List Ban) (a : ℕ) where
   decides_stands_before law n p = decides_some_below _ (λ u. CanStand f trips bans a u p) (λ u. decides_can_stand law u p) n
 
   -- what is computed for a cart that is there, and for one that is not
-  pub there_by_row : a < length trips → (u p : ℕ) (row : List Bool) → row ≡ row_at f trips bans a u → marked row p ≡ can_stand f trips bans a u p
-  there_by_row there u p row is =
-      ap (λ r. marked r p) is ∙ sym (ap (λ t. t && marked (row_at f trips bans a u) p) (lt-ltb a (length trips) there))
+  pub there_by_row : a < length trips → (u p : ℕ) → marked (row_at f trips bans a u) p ≡ can_stand f trips bans a u p
+  there_by_row there u p = sym (ap (λ t. t && marked (row_at f trips bans a u) p) (lt-ltb a (length trips) there))
+
+  -- the same of a row that is equal to it
+  pub there_by_same_row : a < length trips → (u p : ℕ) (row : List Bool) → row ≡ row_at f trips bans a u → marked row p ≡ can_stand f trips bans a u p
+  there_by_same_row there u p row is = ap (λ r. marked r p) is ∙ there_by_row there u p
 
   pub gone_never : length trips ≤ a → (u p : ℕ) → false ≡ can_stand f trips bans a u p
   gone_never gone u p = sym (and_left _ _ (le-ltb a (length trips) gone))

@@ -1,3 +1,5 @@
+// Splits where nothing is banned, at the edges of what is allowed.
+use crate::trips::trip;
 use anyhow::anyhow;
 use floor::Place;
 use maps::{Connection, ListMap};
@@ -38,13 +40,6 @@ fn join(map: &mut ListMap, p: u16, q: u16) -> anyhow::Result<()> {
     match map.join(connection) {
         Ok(()) => Ok(()),
         Err(_) => Err(anyhow!("no connection")),
-    }
-}
-
-fn trip(start: u16, target: u16) -> Trip {
-    Trip {
-        start: Place(start),
-        target: Place(target),
     }
 }
 

@@ -1,5 +1,5 @@
 // What each letter of a split gives on a hall.
-use crate::carts::trip;
+use crate::trips::trip;
 use maps::AnyMap;
 use motion::Trip;
 use search::Workspace;

@@ -1,5 +1,5 @@
 // A whole check of the small floor's plan, told call by call.
-use crate::carts::trip;
+use crate::trips::trip;
 use checking::{Call, run_calls};
 use floor::{Cart, Place};
 use maps::AnyMap;
