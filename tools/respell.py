@@ -23,8 +23,6 @@ GOAL = re.compile(
 )
 # names whose words have changed as well
 OTHER = {"getD-row": "get_or_row"}
-# the new name is one of the library's, or of a parameter that a clause beside it reads
-TAKEN = {}
 
 
 def files():
@@ -45,7 +43,7 @@ def declared(path, text):
 
 
 def new_name(name):
-    return TAKEN.get(name) or OTHER.get(name) or name.replace("-", "_")
+    return OTHER.get(name) or name.replace("-", "_")
 
 
 def respelled(text, pattern):
@@ -86,7 +84,7 @@ def main():
         if new_name(n) in old:
             bad.append(f"{n} and {old[new_name(n)]} fall together")
         old[new_name(n)] = n
-        if new_name(n) in words and n not in TAKEN:
+        if new_name(n) in words:
             bad.append(f"{n}: {new_name(n)} stands in the text already")
     if bad:
         sys.exit("\n".join(bad))
