@@ -1,7 +1,8 @@
 -- Tests that decide what they are made to tell, put together from the tests of their parts.
-use Rattle.std.proofs.Common.{◌≡◌, ℕ, ◌+◌, ◌<◌, ◌≤◌, Bool, true, false, not, ◌&&◌, ◌||◌, leb, List, length, Decides, All, sym, refl, add-one}
+use Rattle.std.proofs.Common.{◌≡◌, ℕ, ◌+◌, ◌<◌, ◌≤◌, Bool, true, false, not, ◌&&◌, ◌||◌, leb, List, [], ◌∷◌, ◌++◌, length, Decides, All, sym, refl, ap, ◌∙◌, add-one, arith, zero, suc}
 use Rattle.floor.specs.Tests.{every, every_below, some, some_below}
-use Rattle.std.specs.List.{HoldsAt}
+use Rattle.std.specs.List.{HoldsAt, range_with_len}
+use Rattle.std.proofs.lemmas.List.Folds.{list_all-append, list_any-append}
 use Rattle.std.proofs.lemmas.Bool.{and_from, both_ways, leb-true, le-leb, not-true, or_from, true≢false}
 use Rattle.std.proofs.lemmas.Bool.Decides.{not_from_Decides, Decides-not, Decides-and, Decides-like, Decides-by_and, Decides-by_or, Decides-below_and, Decides-below_or}
 
@@ -64,3 +65,23 @@ module _ (p : ℕ → Bool) where
 
   pub some_below_holds : (k n : ℕ) → k < n → p k ≡ true → some_below p n ≡ true
   some_below_holds k n lt holds = (decides_some_below p _ (λ i. decides_itself (p i)) n).1 (k, lt, holds)
+
+-- a chain over the numbers below a bound tests the same
+counted : (a n j : ℕ) → a + n ≡ j → range_with_len a (suc n) ≡ range_with_len a n ++ j ∷ []
+counted a zero j e = let same : a ≡ j = omega arith in ap (λ k. k ∷ []) same
+counted a (suc n) j e = ap (λ l. a ∷ l) (counted (a + 1) n j (omega arith))
+
+module _ (p : ℕ → Bool) where
+  pub every_in_range : (n : ℕ) → every p (range_with_len 0 n) ≡ every_below p n
+  every_in_range zero = refl
+  every_in_range (suc n) =
+      let split = ap (every p) (counted 0 n n (omega arith)) ∙ list_all-append p (range_with_len 0 n) (n ∷ []) in
+      let before = every_in_range n in
+      grind (arith, split, before)
+
+  pub some_in_range : (n : ℕ) → some p (range_with_len 0 n) ≡ some_below p n
+  some_in_range zero = refl
+  some_in_range (suc n) =
+      let split = ap (some p) (counted 0 n n (omega arith)) ∙ list_any-append p (range_with_len 0 n) (n ∷ []) in
+      let before = some_in_range n in
+      grind (arith, split, before)

@@ -1,15 +1,6 @@
--- Tests over lists and over the numbers below a bound.
-use Rattle.std.specs.Prelude.{ℕ, zero, suc, Bool, true, false, ◌&&◌, ◌||◌, List, [], ◌∷◌}
-
--- each element passes
-abbrev pub every : {A : Type 0} → (A → Bool) → List A → Bool
-every passes [] = true
-every passes (x ∷ xs) = passes x && every passes xs
-
--- some element passes
-abbrev pub some : {A : Type 0} → (A → Bool) → List A → Bool
-some passes [] = false
-some passes (x ∷ xs) = passes x || some passes xs
+-- Tests over lists, which are the library's, and over the numbers below a bound.
+use Rattle.std.specs.Prelude.{ℕ, zero, suc, Bool, true, false, ◌&&◌, ◌||◌}
+pub use Rattle.std.specs.List.{list_all as every, list_any as some}
 
 -- each number below the bound passes
 abbrev pub every_below : (ℕ → Bool) → ℕ → Bool

@@ -1,24 +1,27 @@
 #![tactic(auto)]
 
+mod iter;
 mod joins;
+mod numbers;
 
 ghost use Rattle.std.specs.Prelude.{◌≡◌, length};
 ghost use Rattle.floor.specs.Floor.{Floor, Lawful};
 ghost use Rattle.std.specs.List.{slice_get};
 ghost use Rattle.std.specs.Option.{option_map};
 
+pub use iter::{NeighbourIter, neighbours_of};
 pub use joins::is_joined;
 
 // A place of the floor, by its number from 0.
-#[derive(Clone, Copy, PartialEq, Eq, Debug)]
+#[derive(Clone, Copy, PartialEq, Eq, PartialOrd, Ord, Hash, Default, Debug)]
 pub struct Place(pub u16);
 
 // A cart of a check, by its number from 0.
-#[derive(Clone, Copy, PartialEq, Eq, Debug)]
+#[derive(Clone, Copy, PartialEq, Eq, PartialOrd, Ord, Hash, Default, Debug)]
 pub struct Cart(pub u8);
 
 // A tick of the clock that all carts share, from 0.
-#[derive(Clone, Copy, PartialEq, Eq, Debug)]
+#[derive(Clone, Copy, PartialEq, Eq, PartialOrd, Ord, Hash, Default, Debug)]
 pub struct Tick(pub u16);
 
 // What can be asked of a map. Asking alters nothing: every question takes the map by `&`.

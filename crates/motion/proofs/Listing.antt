@@ -1,5 +1,5 @@
 -- A list of places means the route that follows it: what the route test tells.
-use Rattle.std.proofs.Common.{◌≡◌, ℕ, suc, ◌<◌, ◌≤◌, ◌↔◌, List, length, get_or, Ok, Err, Decides, All, refl, ap, arith, MatchResult}
+use Rattle.std.proofs.Common.{◌≡◌, ℕ, suc, ◌<◌, ◌≤◌, ◌↔◌, List, length, get_or, Err, Decides, All, refl, ap, arith, MatchResult}
 use Rattle.floor.specs.Floor.{Floor}
 use Rattle.floor.proofs.Chains.{unless_tells, ok_exactly, err_exactly}
 use Rattle.floor.proofs.Deciding.{decides_every, decides_every_below, decides_leb}
@@ -60,6 +60,3 @@ module _ (f : Floor) (start target : ℕ) (ps : List ℕ) where
     where
       fails : (e : RouteRefusal) → (route_check f start target ps ≡ Err e) ↔ Faulty e
       fails e = err_exactly _ Faulty _ e (λ d. one_fault d e) (λ _ listed fault. listed_or_faulty e fault listed) check_tells
-
-  pub listed_route : route_check f start target ps ≡ Ok tt → Route f start target (place_at ps) (steps ps)
-  listed_route passed = (route_test_tells.taken.0 passed).route

@@ -1,9 +1,8 @@
 -- A list of places as the code reads it.
-use Rattle.std.proofs.Common.{◌≡◌, ℕ, zero, suc, ◌+◌, ◌-◌, ◌<◌, ◌≤◌, min, max, true, false, not, ◌&&◌, ◌||◌, eqb, ltb, leb, List, [], ◌∷◌, length, get_or, refl, ap, ◌∙◌, arith}
+use Rattle.std.proofs.Common.{◌≡◌, ℕ, zero, suc, ◌+◌, ◌-◌, ◌<◌, min, max, not, ◌&&◌, ◌||◌, eqb, ltb, leb, List, [], ◌∷◌, length, get_or, refl, ap, ◌∙◌, arith}
 use Rattle.floor.specs.Floor.{Floor}
 use Rattle.floor.specs.Tests.{every_below, some_below}
 use Rattle.floor.specs.declared.Place.{Place}
-use Rattle.floor.proofs.Deciding.{every_below_fails, some_below_holds}
 use Rattle.std.proofs.lemmas.List.{length-map}
 use Rattle.std.proofs.lemmas.Bool.Decides.{nat_tests}
 use Rattle.motion.specs.Listed.{clash, goes_on, in_conflict, is_route, may_step, numbers, place_at, steps}
@@ -37,19 +36,7 @@ route_read f start target xs =
     let last = place_read xs (length xs - 1) (steps (numbers xs)) (omega arith) in
     cc
 
-pub no_route_at : (f : Floor) (start target : ℕ) (xs : List Place) (t : ℕ) → t < length xs - 1 → goes_on f (numbers xs) t ≡ false → is_route f start target (numbers xs) ≡ false
-no_route_at f start target xs t lt stops =
-    let read = route_read f start target xs in
-    let fails = every_below_fails (goes_on f (numbers xs)) t (length xs - 1) lt stops in
-    grind (arith, nat_tests)
-
 pub conflict_read : (xs ys : List Place) →
     in_conflict (numbers xs) (numbers ys) ≡ (leb 1 (length xs) && leb 1 (length ys) && some_below (clash (place_at (numbers xs)) (place_at (numbers ys))) (max (length xs) (length ys)))
 unfolding in_conflict
 conflict_read xs ys = let long-x = length-map xs (λ p. p.0) in let long-y = length-map ys (λ p. p.0) in cc
-
-pub conflict_at : (xs ys : List Place) (t : ℕ) → 1 ≤ length xs → 1 ≤ length ys → t < max (length xs) (length ys) → clash (place_at (numbers xs)) (place_at (numbers ys)) t ≡ true → in_conflict (numbers xs) (numbers ys) ≡ true
-conflict_at xs ys t some-x some-y lt clashes =
-    let read = conflict_read xs ys in
-    let holds = some_below_holds (clash (place_at (numbers xs)) (place_at (numbers ys))) t (max (length xs) (length ys)) lt clashes in
-    grind (arith, nat_tests)

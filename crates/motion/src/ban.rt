@@ -1,9 +1,12 @@
+ghost use Rattle.std.specs.Prelude.{◌≡◌};
+ghost use Rattle.motion.specs.declared.ban.Ban.TheVariants.{Stand, Move};
+
 use floor::{Cart, Place, Tick};
 use std::fmt;
 use std::fmt::{Display, Formatter};
 
 // What a branch forbids.
-#[derive(Clone, Copy)]
+#[derive(Clone, Copy, PartialEq, Eq, Hash, Debug)]
 pub enum Ban {
     // The cart is not at the place at any tick from `first` to `last`.
     Stand {
@@ -32,6 +35,32 @@ pub enum Ban {
     },
 }
 
+// Bans of one tick.
+impl Ban {
+    pub fn stand_at(cart: Cart, place: Place, tick: Tick) -> Ban
+        ensures { result ≡ Stand cart place tick tick }
+    {
+        Ban::Stand {
+            cart,
+            place,
+            first: tick,
+            last: tick,
+        }
+    }
+
+    pub fn move_at(cart: Cart, from: Place, to: Place, arrival: Tick) -> Ban
+        ensures { result ≡ Move cart from to arrival arrival }
+    {
+        Ban::Move {
+            cart,
+            from,
+            to,
+            first: arrival,
+            last: arrival,
+        }
+    }
+}
+
 // A ban in words.
 impl Display for Ban {
     fn fmt<W: fmt::Write>(&self, f: &mut Formatter<W>) -> fmt::Result {
@@ -41,11 +70,7 @@ impl Display for Ban {
                 place,
                 first,
                 last,
-            } => write!(
-                f,
-                "cart {} not at {} from tick {} to {}",
-                cart.0, place.0, first.0, last.0
-            ),
+            } => write!(f, "cart {cart} not at {place} from tick {first} to {last}"),
             Ban::Move {
                 cart,
                 from,
@@ -54,14 +79,12 @@ impl Display for Ban {
                 last,
             } => write!(
                 f,
-                "cart {} not from {} to {} at ticks {} to {}",
-                cart.0, from.0, to.0, first.0, last.0
+                "cart {cart} not from {from} to {to} at ticks {first} to {last}"
             ),
-            Ban::Late { cart, tick } => write!(f, "cart {} not home by tick {}", cart.0, tick.0),
+            Ban::Late { cart, tick } => write!(f, "cart {cart} not home by tick {tick}"),
             Ban::By { cart, tick } => write!(
                 f,
-                "cart {} home by tick {}, and no other at its target from then on",
-                cart.0, tick.0
+                "cart {cart} home by tick {tick}, and no other at its target from then on"
             ),
         }
     }

@@ -1,29 +1,43 @@
-ghost use Rattle.std.specs.Prelude.{◌≡◌, ◌+◌, ◌<◌, max, length, nat_lt};
+ghost use Rattle.std.specs.Prelude.{◌≡◌, ◌+◌, ◌<◌, max, length, nat_lt, Some};
 ghost use Rattle.floor.specs.Tests.{every};
 ghost use Rattle.motion.specs.Listed.{clash, goes_on, in_conflict, may_step, is_route, numbers, place_at, route_check, ConflictTestTells, RouteTestTells};
-ghost use Rattle.motion.specs.Refusals.{number_of};
+ghost use Rattle.motion.specs.Refusals.{number_of, word_of};
 
 use crate::trip::Trip;
 use floor::{FloorMap, Place, is_joined};
+use std::error::Error;
+use std::fmt;
+use std::fmt::{Display, Formatter};
 
 // Why a list of places is no route of a cart.
 #[derive(Clone, Copy, PartialEq, Eq, Debug)]
 pub enum RouteRefusal {
     // a place that is not on the floor
-    NoPlace,
+    NoPlace = 6,
     // empty, more than 255 steps, another start or end, a step that neither stays nor goes to a neighbour, or a last
     // step that waits at the target
-    NoRoute,
+    NoRoute = 14,
 }
+
+impl Display for RouteRefusal {
+    ghost output = { λ refusal. Some (word_of refusal) };
+
+    fn fmt<W: fmt::Write>(&self, f: &mut Formatter<W>) -> fmt::Result {
+        let word = match self {
+            Self::NoPlace => "no place",
+            Self::NoRoute => "route",
+        };
+        f.write_str(word)
+    }
+}
+
+impl Error for RouteRefusal {}
 
 impl RouteRefusal {
     pub fn number(self) -> u8
         ensures { result ≡ number_of self }
     {
-        match self {
-            RouteRefusal::NoPlace => 6,
-            RouteRefusal::NoRoute => 14,
-        }
+        self as u8
     }
 }
 
@@ -44,28 +58,19 @@ pub fn check_route<M: FloorMap>(map: &M, trip: Trip, places: &[Place]) -> Result
 fn on_floor<M: FloorMap>(map: &M, places: &[Place]) -> bool
     ensures { result ≡ every (λ p. nat_lt p (M.FloorMap.floor map.now).count) (numbers places.now) }
 {
-    for p in places {
-        if p.0 as usize >= map.places() {
-            return false;
-        }
-    }
-    true
+    places.iter().all(|p| usize::from(*p) < map.places())
 }
 
 // Whether the places are a route of at most 255 steps from the start to the target.
 fn is_route<M: FloorMap>(map: &M, trip: Trip, places: &[Place]) -> bool
     ensures { result ≡ is_route (M.FloorMap.floor map.now) trip.start.0 trip.target.0 (numbers places.now) }
 {
-    if places.len() == 0 || places.len() > 256 {
+    if places.is_empty() || places.len() > 256 {
         return false;
     }
     let last = places.len() - 1;
-    for t in 0..last {
-        if !goes_on(map, places, t) {
-            return false;
-        }
-    }
-    places[0].0 == trip.start.0 && places[last].0 == trip.target.0
+    let ends = places[0] == trip.start && places[last] == trip.target;
+    ends && (0..last).all(|t| goes_on(map, places, t))
 }
 
 // Whether the step after the tick is one that the floor has, and no wait if it is the last.
@@ -75,30 +80,23 @@ fn goes_on<M: FloorMap>(map: &M, places: &[Place], tick: usize) -> bool
 {
     let from = places[tick];
     let to = places[tick + 1];
-    may_step(map, from, to) && (tick + 2 < places.len() || from.0 != to.0)
+    may_step(map, from, to) && (tick + 2 < places.len() || from != to)
 }
 
 // Whether a step stays or goes to a neighbour.
 fn may_step<M: FloorMap>(map: &M, from: Place, to: Place) -> bool
     ensures { result ≡ may_step (M.FloorMap.floor map.now) from.0 to.0 }
 {
-    to.0 == from.0 || is_joined(map, from, to)
+    to == from || is_joined(map, from, to)
 }
 
-// Whether the routes that two lists of places stand for conflict: an empty list conflicts with nothing.
+// Whether the routes that two lists of places stand for conflict: an empty list conflicts with nothing. Tested tick by
+// tick, as the shorter list goes on at its last place.
 pub fn in_conflict(a: &[Place], b: &[Place]) -> bool
     ensures answer { result ≡ in_conflict (numbers a.now) (numbers b.now) }
     ensures tells { ConflictTestTells (numbers a.now) (numbers b.now) }
 {
-    if a.len() == 0 || b.len() == 0 {
-        return false;
-    }
-    for t in 0..a.len().max(b.len()) {
-        if clashes(a, b, t) {
-            return true;
-        }
-    }
-    false
+    !a.is_empty() && !b.is_empty() && (0..a.len().max(b.len())).any(|t| clashes(a, b, t))
 }
 
 // Whether they are at one place at the tick, or swap places in the step after it.
@@ -111,10 +109,10 @@ fn clashes(a: &[Place], b: &[Place], tick: usize) -> bool
     p == q || p == place_at(b, tick + 1) && place_at(a, tick + 1) == q
 }
 
-// The number of the place where a list of places is at a tick.
-fn place_at(places: &[Place], tick: usize) -> u16
+// Where a list of places is at a tick.
+fn place_at(places: &[Place], tick: usize) -> Place
     requires { 0 < length places.now }
-    ensures { result ≡ place_at (numbers places.now) tick }
+    ensures { result.0 ≡ place_at (numbers places.now) tick }
 {
-    places[tick.min(places.len() - 1)].0
+    places[tick.min(places.len() - 1)]
 }

@@ -1,27 +1,8 @@
-use Rattle.std.proofs.Common.{sym, ◌∙◌, rules, below_more}
-use Rattle.floor.proofs.Deciding.{decides_yes, decides_no, false_from_decides}
-use Rattle.floor.proofs.Neighbours.{neighbour_listed, decides_joined, joined_found, joined_missed}
+use Rattle.std.proofs.Common.{rules, nat_eq}
+use Rattle.std.proofs.lemmas.Iterator.Consumers.{YieldsList-from_first}
+use Rattle.std.proofs.lemmas.Iterator.Search.{any_from_yields_List}
 use Rattle.floor.proofs.joins.is_joined.Goals as goal
 
-pub returns-then-n-q : goal.returns-then-n-q
-returns-then-n-q g c =
-    let f = g.M.FloorMap.floor c.args.map.now in
-    let joined = joined_found f c.args.p.0 c.args.q.0 c.loop-n.i c.in-Some.n.0 c.in-Some.ensures c.if-n-q.true in
-    record { computed = sym ((decides_joined f c.args.p.0 c.args.q.0).1 joined); means = decides_yes joined }
-
-pub overflow_add-i : goal.overflow_add-i
-overflow_add-i g c = let few = (g.met.M.FloorMap.lawful c.args.map.now).few c.args.p.0 in search (rules, neighbour_listed)
-
-pub loop-n-smaller : goal.loop-n-smaller
-loop-n-smaller g c = search (rules, neighbour_listed)
-
-pub loop-n-preserved : goal.loop-n-preserved
-loop-n-preserved g c =
-    let listed = neighbour_listed ((g.M.FloorMap.floor c.args.map.now).next c.args.p.0) c.loop-n.i c.in-Some.n.0 c.in-Some.ensures in
-    below_more _ _ c.loop-n.invariant (λ e. c.if-n-q.false (sym listed.1 ∙ e))
-
-pub returns : goal.returns
-returns g c =
-    let f = g.M.FloorMap.floor c.args.map.now in
-    let missed = joined_missed f c.args.p.0 c.args.q.0 c.loop-n.i c.loop-n.invariant c.in_default.ensures in
-    record { computed = sym (false_from_decides _ (decides_joined f c.args.p.0 c.args.q.0) missed); means = decides_no missed }
+pub returns-clause-computed : goal.returns-clause-computed
+returns-clause-computed g c =
+    any_from_yields_List (λ n. nat_eq n c.args.q.0) _ _ _ c.any.ensures.ran (YieldsList-from_first _ _ _ c.neighbours_of.ensures) (λ x b f k. search rules)

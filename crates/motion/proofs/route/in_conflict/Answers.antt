@@ -1,18 +1,24 @@
-use Rattle.std.proofs.Common.{rules}
-use Rattle.floor.proofs.Deciding.{some_below_more}
+use Rattle.std.proofs.Common.{◌≡◌, rules, arith, refl, max, length, ◌∙◌}
+use Rattle.floor.specs.Tests.{some_below}
+use Rattle.floor.proofs.Deciding.{some_in_range}
 use Rattle.std.proofs.lemmas.Bool.Decides.{nat_tests}
+use Rattle.std.proofs.lemmas.Iterator.{YieldsList-from_range}
+use Rattle.std.proofs.lemmas.Iterator.Search.{any_from_yields_List}
+use Rattle.motion.specs.Listed.{clash, numbers, place_at}
 use Rattle.motion.proofs.Conflicting.{conflict_test_tells}
-use Rattle.motion.proofs.Reading.{conflict_at, conflict_read}
+use Rattle.motion.proofs.Reading.{conflict_read}
 use Rattle.motion.proofs.route.in_conflict.Goals as goal
 
-pub returns-then-a-eq0 : goal.returns-then-a-eq0
-returns-then-a-eq0 c = record { answer = search (rules, nat_tests, conflict_read); tells = conflict_test_tells _ _ }
+pub returns-then-not-is_empty-2-clause-answer : goal.returns-then-not-is_empty-2-clause-answer
+returns-then-not-is_empty-2-clause-answer c =
+    let clashes = clash (place_at (numbers c.args.a.now)) (place_at (numbers c.args.b.now)) in
+    let some : c.any.result ≡ some_below clashes (max (length c.args.a.now) (length c.args.b.now)) =
+    any_from_yields_List clashes _ _ _ c.any.ensures.ran (YieldsList-from_range 0 _ _ refl (omega arith)) (λ t b q k. search rules) ∙ some_in_range clashes _
+    in
+    search (rules, nat_tests, conflict_read)
 
-pub returns-then-clashes : goal.returns-then-clashes
-returns-then-clashes c = record { answer = search (rules, conflict_at); tells = conflict_test_tells _ _ }
+pub returns-then-not-is_empty-2-clause-tells : goal.returns-then-not-is_empty-2-clause-tells
+returns-then-not-is_empty-2-clause-tells c = conflict_test_tells _ _
 
-pub loop-t-preserved : goal.loop-t-preserved
-loop-t-preserved c = search (rules, some_below_more)
-
-pub returns : goal.returns
-returns c = record { answer = search (rules, nat_tests, conflict_read); tells = conflict_test_tells _ _ }
+pub returns-else-not-is_empty-2-clause-answer : goal.returns-else-not-is_empty-2-clause-answer
+returns-else-not-is_empty-2-clause-answer c = search (rules, nat_tests, conflict_read)

@@ -1,20 +1,20 @@
-use Rattle.std.proofs.Common.{rules}
-use Rattle.floor.proofs.Deciding.{every_below_more}
+use Rattle.std.proofs.Common.{◌≡◌, rules, arith, refl, ◌-◌, length, ◌∙◌}
+use Rattle.floor.specs.Tests.{every_below}
+use Rattle.floor.proofs.Deciding.{every_in_range}
 use Rattle.std.proofs.lemmas.Bool.Decides.{nat_tests}
-use Rattle.motion.proofs.Reading.{no_route_at, route_read}
+use Rattle.std.proofs.lemmas.Iterator.{YieldsList-from_range}
+use Rattle.std.proofs.lemmas.Iterator.Search.{all_from_yields_List}
+use Rattle.motion.specs.Listed.{goes_on, numbers}
+use Rattle.motion.proofs.Reading.{route_read}
 use Rattle.motion.proofs.route.is_route.Goals as goal
 
-pub returns-then-places-eq0 : goal.returns-then-places-eq0
-returns-then-places-eq0 g c = search (rules, nat_tests, route_read)
+pub returns-then-ends : goal.returns-then-ends
+returns-then-ends g c =
+    let goes = goes_on (g.M.FloorMap.floor c.args.map.now) (numbers c.args.places.now) in
+    let each : c.all.result ≡ every_below goes (length c.args.places.now - 1) =
+    all_from_yields_List goes _ _ _ c.all.ensures.ran (YieldsList-from_range 0 _ _ refl (omega arith)) (λ t b q k. search rules) ∙ every_in_range goes _
+    in
+    search (rules, nat_tests, route_read)
 
-pub returns-then-not-goes_on : goal.returns-then-not-goes_on
-returns-then-not-goes_on g c = search (rules, no_route_at)
-
-pub loop-t-preserved : goal.loop-t-preserved
-loop-t-preserved g c = search (rules, every_below_more)
-
-pub returns-then-places-trip : goal.returns-then-places-trip
-returns-then-places-trip g c = search (rules, nat_tests, route_read)
-
-pub returns-else-places-trip : goal.returns-else-places-trip
-returns-else-places-trip g c = search (rules, nat_tests, route_read)
+pub returns-else-ends : goal.returns-else-ends
+returns-else-ends g c = search (rules, nat_tests, route_read)
