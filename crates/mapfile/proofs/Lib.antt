@@ -8,10 +8,9 @@ pub mod Bodies
 pub mod GridStages
 pub mod GridTells
 pub mod GridLayout
-pub mod TextSteps
-pub mod NumberSteps
-pub mod RowSteps
-pub mod GridHeadings
 pub mod GridsMade
+pub mod TextSteps
+pub mod RowSteps
+pub mod NumberSteps
 pub mod FaultAnswers
 pub mod MapFiles

@@ -63,7 +63,7 @@ module _ (n : Network) (at l a b c d : ℕ) (bytes : List ℕ) where
   joined_after : (j : Network) (r : Result Network Fault) → l ≡ 87 → blame at (joining n (connection a b c d)) ≡ Ok j → connecting j (at + 5) bytes ≡ r → After r
   joined_after j r letter blamed goes =
       let taken = blame_ok at (joining n (connection a b c d)) j blamed in
-      let is = (passed_from_ok n (connection a b c d) j taken).is in
+      let is = (passed_from_ok n (connection a b c d) j taken).1 in
       (letter, subst (λ j. joining n (connection a b c d) ≡ Ok j) is taken, subst (λ j. connecting j (at + 5) bytes ≡ r) is goes)
 
   command_ok : (m : Network) → connecting n at (l ∷ a ∷ b ∷ c ∷ d ∷ bytes) ≡ Ok m → After (Ok m)

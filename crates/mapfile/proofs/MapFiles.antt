@@ -1,8 +1,8 @@
 -- A map file is read exactly when it is laid out as a list or as a grid: the first byte tells the two apart.
-use Rattle.std.proofs.Common.{◌≡◌, ℕ, true, false, List, Ok, Err, Result, sym, ap, ◌∙◌, subst, ⊎_elim}
+use Rattle.std.proofs.Common.{◌≡◌, ℕ, true, false, List, Ok, Err, Result, MatchResult, sym, ap, ◌∙◌, subst, ⊎_elim}
 use Rattle.floor.specs.Checks.{◌>>=◌}
 use Rattle.floor.proofs.Chains.{ok_no_err, ok_same, bind_ok, bind_err, bind_at}
-use Rattle.maps.specs.AnyMaps.{Hall, listed, gridded}
+use Rattle.maps.specs.AnyMaps.{Hall, hall_of, listed, gridded}
 use Rattle.maps.specs.Grids.{Grid}
 use Rattle.maps.specs.Networks.{Network}
 use Rattle.mapfile.specs.GridFiles.{grid_reading}
@@ -11,6 +11,10 @@ use Rattle.mapfile.specs.ListFiles.{list_reading}
 use Rattle.mapfile.specs.ListLayout.{list_text, ListReadExactly, ListFaultIsFirst}
 use Rattle.mapfile.specs.MapFiles.{is_list, reading_as, map_reading, MapText, MapReadExactly, FaultAs, MapFaultIsFirst}
 use Rattle.mapfile.specs.declared.fault.Fault.{Fault}
+use Rattle.mapfile.specs.declared.fault.ReadError.{ReadError}
+use Rattle.mapfile.proofs.FaultAnswers.{stage_error}
+use Rattle.mapfile.specs.Faults.{Answers}
+use Rattle.maps.specs.declared.any.AnyMap.{AnyMap}
 use Rattle.std.proofs.lemmas.Bool.{both_ways}
 
 list_begins : (bytes : List ℕ) (n : Network) → bytes ≡ list_text n → is_list bytes ≡ true
@@ -36,6 +40,12 @@ module _ (bytes : List ℕ) where
 
     pub kind_reads : (x : X) → reading ≡ Ok x → map_reading bytes ≡ Ok (kind x)
     kind_reads x e = is ∙ bind_at reading (λ x. Ok (kind x)) x e
+
+    -- and what is made of an answer of that kind is an answer of either
+    pub kind_answers : {T : Type 0} (means : T → X) (wrap : T → AnyMap) → ((t : T) → hall_of (wrap t) ≡ kind (means t)) → (r : Result T ReadError) → Answers means reading r → (told : Result AnyMap ReadError) → MatchResult r (λ t. told ≡ Ok (wrap t)) (λ e. told ≡ Err e)
+        → Answers hall_of (map_reading bytes) told
+    kind_answers means wrap wraps (Ok t) answer told tells = rw (tells, wraps t) (kind_reads (means t) answer)
+    kind_answers means wrap wraps (Err e) answer told tells = rw tells (stage_error (map_reading bytes) reading (λ x. Ok (kind x)) is e answer)
 
     kind_fails : (f : Fault) → map_reading bytes ≡ Err f → reading ≡ Err f
     kind_fails f e =

@@ -1,18 +1,16 @@
--- The rows of a grid, read byte by byte.
-use Rattle.std.proofs.Common.{◌≡◌, ℕ, zero, suc, ◌+◌, ◌-◌, ◌<◌, ◌≤◌, Bool, cond, eqb, List, [], ◌∷◌, ◌++◌, length, get_or, drop, Ok, Err, Result, sym, refl, ap, ◌∙◌, append_assoc, append-nil, sub-one, arith}
+-- The rows of a grid, read sign by sign.
+use Rattle.std.proofs.Common.{◌≡◌, ℕ, zero, suc, ◌+◌, ◌-◌, ◌<◌, ◌≤◌, min, eqb, Bool, List, [], ◌∷◌, ◌++◌, length, get_or, drop, Ok, Err, Result, IfSome, ⊎_elim, sym, refl, ap, ◌∙◌, append_assoc, append-nil, sub-one, arith}
 use Rattle.maps.specs.Signs.{sign_of}
 use Rattle.maps.specs.declared.refusal.MapRefusal.TheVariants.{Ragged}
-use Rattle.mapfile.specs.Faults.{fault}
+use Rattle.mapfile.specs.Faults.{fault, fault_of}
 use Rattle.mapfile.specs.GridFiles.{before_cells, body, cell}
-use Rattle.mapfile.specs.GridReads.{ReadsCell}
+use Rattle.mapfile.specs.GridReads.{ReadsCell, ReadsRow, after_cells}
+use Rattle.mapfile.specs.declared.cursor.Cursor.{Cursor}
 use Rattle.mapfile.specs.declared.fault.Fault.{Fault}
+use Rattle.mapfile.specs.declared.fault.ReadError.{ReadError}
+use Rattle.mapfile.specs.declared.fault.ReadError.TheVariants.{Fault as Faulty, NoMemory}
 use Rattle.std.proofs.lemmas.List.{at_drop_more, at_drop_all}
-use Rattle.std.proofs.lemmas.Bool.{eq-eqb, ne_eqb}
-
--- cells that are read, before those that are left
-abbrev pub after_cells : List Bool → Result (List Bool) Fault → Result (List Bool) Fault
-after_cells cells (Ok others) = Ok (cells ++ others)
-after_cells cells (Err f) = Err f
+use Rattle.std.proofs.lemmas.Bool.{eq-eqb, ne_eqb, cases_lt}
 
 pub after_none : (cells : List Bool) (r : Result (List Bool) Fault) → cells ≡ [] → r ≡ after_cells cells r
 after_none cells (Ok others) none = rw none
@@ -22,63 +20,62 @@ after_push : (cells : List Bool) (free : Bool) (r : Result (List Bool) Fault) �
 after_push cells free (Ok others) = ap Ok (sym (append_assoc cells (free ∷ []) others))
 after_push cells free (Err f) = refl
 
-module _ (bytes : List ℕ) (width i : ℕ) where
-  left_lacks : (rows columns : ℕ) → 0 < rows → length bytes ≤ i → body rows columns width i (drop i bytes) ≡ Err (fault Ragged i)
-  left_lacks zero columns some past = absurd (omega arith)
-  left_lacks (suc rows) columns some past = at_drop_all (body (suc rows) columns width i) bytes i past
+sign_due : (rows columns width at i : ℕ) (bytes : List ℕ) → 0 < columns → i < length bytes
+    → body (suc rows) columns width at (drop i bytes) ≡ cell (sign_of (get_or bytes i 0)) (eqb (get_or bytes i 0) 10) at (body (suc rows) (columns - 1) width (at + 1) (drop (i + 1) bytes))
+sign_due rows zero width at i bytes due there = absurd (omega arith)
+sign_due rows (suc columns) width at i bytes due there = rw sub-one (at_drop_more (body (suc rows) (suc columns) width at) bytes i 0 there)
 
-  left_read : (rows columns : ℕ) → rows ≤ 0 → length bytes ≤ i → body rows columns width i (drop i bytes) ≡ Ok []
-  left_read zero columns none past = at_drop_all (body zero columns width i) bytes i past
-  left_read (suc rows) columns none past = absurd (omega arith)
-
-  left_past : (columns : ℕ) → i < length bytes → body zero columns width i (drop i bytes) ≡ Err (fault Ragged i)
-  left_past columns there = at_drop_more (body zero columns width i) bytes i 0 there
-
-  left_at_end : (rows columns : ℕ) → (rows ≡ 0 → ⊥) → columns ≤ 0 → i < length bytes
-      → body rows columns width i (drop i bytes) ≡ cond (eqb (get_or bytes i 0) 10) (body (rows - 1) width width (i + 1) (drop (i + 1) bytes)) (Err (fault Ragged i))
-  left_at_end zero columns some full there = absurd (some refl)
-  left_at_end (suc rows) zero some full there = rw sub-one (at_drop_more (body (suc rows) zero width i) bytes i 0 there)
-  left_at_end (suc rows) (suc columns) some full there = absurd (omega arith)
-
-  left_at_sign : (rows columns : ℕ) → (rows ≡ 0 → ⊥) → 0 < columns → i < length bytes
-      → body rows columns width i (drop i bytes) ≡ cell (sign_of (get_or bytes i 0)) (eqb (get_or bytes i 0) 10) i (body rows (columns - 1) width (i + 1) (drop (i + 1) bytes))
-  left_at_sign zero columns some due there = absurd (some refl)
-  left_at_sign (suc rows) zero some due there = absurd (omega arith)
-  left_at_sign (suc rows) (suc columns) some due there = rw sub-one (at_drop_more (body (suc rows) (suc columns) width i) bytes i 0 there)
-
--- the reading of all rows, by the cells that are read and by what is left from i on
-module _ (all : Result (List Bool) Fault) (cells : List Bool) (bytes : List ℕ) (rows columns width i : ℕ)
-    (inv : all ≡ after_cells cells (body rows columns width i (drop i bytes))) where
-  all_from : {left : Result (List Bool) Fault} → body rows columns width i (drop i bytes) ≡ left → all ≡ after_cells cells left
+-- the reading of all rows, by the cells so far and by what is left of a row and of those behind it
+module _ (all : Result (List Bool) Fault) (cells : List Bool) (rows width at i : ℕ) (bytes : List ℕ)
+    (inv : all ≡ after_cells cells (body (suc rows) (width - i) width (at + i) (drop i bytes))) where
+  all_from : {left : Result (List Bool) Fault} → body (suc rows) (width - i) width (at + i) (drop i bytes) ≡ left → all ≡ after_cells cells left
   all_from e = inv ∙ ap (after_cells cells) e
 
-  pub rows_lack : 0 < rows → i ≡ length bytes → all ≡ Err (fault Ragged (length bytes))
-  rows_lack some end = rw end at (all_from (left_lacks bytes width i rows columns some (omega arith)))
+  module _ (due : i < width) (there : i < length bytes) where
+    pub sign_read : (free : Bool) → ReadsCell (get_or bytes i 0) (at + i) (Ok free) → all ≡ after_cells (cells ++ free ∷ []) (body (suc rows) (width - (i + 1)) width (at + (i + 1)) (drop (i + 1) bytes))
+    sign_read free reads =
+        let columns : width - i - 1 ≡ width - (i + 1) = omega arith in let on : at + i + 1 ≡ at + (i + 1) = omega arith in
+        rw (columns, on) at (all_from (sign_due rows (width - i) width (at + i) i bytes (omega arith) there ∙ reads _) ∙ after_push cells free _)
 
-  pub rows_read : rows ≤ 0 → length bytes ≤ i → all ≡ Ok cells
-  rows_read none past = all_from (left_read bytes width i rows columns none past) ∙ ap Ok (append-nil cells)
+    pub sign_faulty : (f : Fault) → ReadsCell (get_or bytes i 0) (at + i) (Err f) → all ≡ Err f
+    sign_faulty f reads = all_from (sign_due rows (width - i) width (at + i) i bytes (omega arith) there ∙ reads _)
 
-  pub renamed : (cells' : List Bool) (rows' columns' : ℕ) → cells' ≡ cells → rows' ≡ rows → columns' ≡ columns → all ≡ after_cells cells' (body rows' columns' width i (drop i bytes))
-  renamed cells' rows' columns' a b c = rw (a, b, c) inv
+  -- at the row's end, or where the file ends in it
+  module _ (read : i ≡ min width (length bytes)) where
+    pub row_ends : width < length bytes → get_or bytes width 0 ≡ 10 → all ≡ after_cells cells (body rows width width (at + (width + 1)) (drop (width + 1) bytes))
+    row_ends there due =
+        let whole : i ≡ width = omega arith in let none : width - width ≡ 0 = omega arith in
+        let on : at + width + 1 ≡ at + (width + 1) = omega arith in
+        rw (on, eq-eqb _ _ due) at (rw (whole, none) at inv ∙ ap (after_cells cells) (at_drop_more (body (suc rows) 0 width (at + width)) bytes width 0 there))
 
-  module _ (there : i < length bytes) where
-    pub rows_past : rows ≡ 0 → all ≡ Err (fault Ragged i)
-    rows_past none = all_from (ap (λ n. body n columns width i (drop i bytes)) none ∙ left_past bytes width i columns there)
+    pub row_breaks : (width < length bytes → get_or bytes width 0 ≡ 10 → ⊥) → all ≡ Err (fault Ragged (at + i))
+    row_breaks other =
+        ⊎_elim
+        (λ there.
+        let whole : i ≡ width = omega arith in let none : width - width ≡ 0 = omega arith in
+        rw (ne_eqb _ _ (other there), ← whole) at (rw (whole, none) at inv ∙ ap (after_cells cells) (at_drop_more (body (suc rows) 0 width (at + width)) bytes width 0 there)))
+        (λ past. all_from (at_drop_all (body (suc rows) (width - i) width (at + i)) bytes i (omega arith)))
+        (cases_lt width (length bytes))
 
-    module _ (some : rows ≡ 0 → ⊥) where
-      module _ (full : columns ≤ 0) where
-        row_tested : all ≡ after_cells cells (cond (eqb (get_or bytes i 0) 10) (body (rows - 1) width width (i + 1) (drop (i + 1) bytes)) (Err (fault Ragged i)))
-        row_tested = all_from (left_at_end bytes width i rows columns some full there)
+-- from row to row
+module _ (all : Result (List Bool) Fault) (height count width : ℕ) (row : Cursor) (cells : List Bool) (inv : all ≡ after_cells cells (body (height - count) width width row.at row.bytes.now)) where
+  module _ (due : count < height) where
+    due_row : all ≡ after_cells cells (body (suc (height - (count + 1))) width width row.at row.bytes.now)
+    due_row = let next : height - count ≡ suc (height - (count + 1)) = omega arith in rw next at inv
 
-        pub row_ends : get_or bytes i 0 ≡ 10 → all ≡ after_cells cells (body (rows - 1) width width (i + 1) (drop (i + 1) bytes))
-        row_ends e = rw (eq-eqb (get_or bytes i 0) 10 e) at row_tested
+    pub row_read : (more : List Bool) (rest : Cursor) → ReadsRow width row cells more (Ok rest) → all ≡ after_cells more (body (height - (count + 1)) width width rest.at rest.bytes.now)
+    row_read more rest reads = due_row ∙ reads (height - (count + 1))
 
-        pub row_too_long : (get_or bytes i 0 ≡ 10 → ⊥) → all ≡ Err (fault Ragged i)
-        row_too_long ne = rw (ne_eqb (get_or bytes i 0) 10 ne) at row_tested
+    pub row_stops : (more : List Bool) (e : ReadError) → ReadsRow width row cells more (Err e) → IfSome (fault_of e) (λ f. all ≡ Err f)
+    row_stops more (Faulty f) reads = due_row ∙ reads (height - (count + 1))
+    row_stops more NoMemory reads = tt
 
-      module _ (due : 0 < columns) where
-        pub sign_read : (free : Bool) → ReadsCell (get_or bytes i 0) i (Ok free) → all ≡ after_cells (cells ++ free ∷ []) (body rows (columns - 1) width (i + 1) (drop (i + 1) bytes))
-        sign_read free reads = all_from (left_at_sign bytes width i rows columns some due there ∙ reads _) ∙ after_push cells free _
+  module _ (done : height ≤ count) where
+    last_read : all ≡ after_cells cells (body 0 width width row.at row.bytes.now)
+    last_read = let none : height - count ≡ 0 = omega arith in rw none at inv
 
-        pub sign_faulty : (f : Fault) → ReadsCell (get_or bytes i 0) i (Err f) → all ≡ Err f
-        sign_faulty f reads = all_from (left_at_sign bytes width i rows columns some due there ∙ reads _)
+    pub rows_end : length row.bytes.now ≡ 0 → all ≡ Ok cells
+    rows_end empty = last_read ∙ ap (after_cells cells) (at_drop_all (body 0 width width row.at) row.bytes.now 0 (omega arith)) ∙ ap Ok (append-nil cells)
+
+    pub rows_past : (length row.bytes.now ≡ 0 → ⊥) → all ≡ Err (fault Ragged row.at)
+    rows_past some = last_read ∙ ap (after_cells cells) (at_drop_more (body 0 width width row.at) row.bytes.now 0 0 (omega arith))

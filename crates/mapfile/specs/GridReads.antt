@@ -1,31 +1,39 @@
 -- What the parts of the grid reader answer, in the terms of the reading that is defined.
-use Rattle.std.specs.Prelude.{◌≡◌, ℕ, ◌-◌, Bool, cond, List, [], ◌∷◌, drop, Some, None, Ok, Err, Option, Result, ◌==◌}
+use Rattle.std.specs.Prelude.{◌≡◌, ℕ, suc, Bool, List, ◌++◌, Ok, Err, Result, ◌==◌}
 use Rattle.floor.specs.Checks.{◌>>=◌}
 use Rattle.maps.specs.Grids.{Grid}
 use Rattle.maps.specs.Signs.{sign_of}
-use Rattle.mapfile.specs.GridFiles.{Rest, Number, before_cells, body, cell, is_digit}
+use Rattle.mapfile.specs.GridFiles.{Rest, Number, before_cells, body, cell}
+use Rattle.mapfile.specs.declared.cursor.Cursor.{Cursor}
 use Rattle.mapfile.specs.declared.fault.Fault.{Fault}
+use Rattle.mapfile.specs.declared.fault.ReadError.{ReadError}
+use Rattle.mapfile.specs.declared.fault.ReadError.TheVariants.{Fault as Faulty, NoMemory}
 use Rattle.mapfile.specs.declared.grid.Heading.{Heading}
-use Rattle.mapfile.specs.declared.grid.Size.{Size}
 
--- what is left from an offset on
-abbrev pub rest_from : List ℕ → ℕ → Rest
-rest_from bytes at = record { at = at; bytes = drop at bytes }
+abbrev pub rest_of : Cursor → Rest
+rest_of c = record { at = c.at; bytes = c.bytes.now }
 
-abbrev pub behind_text : List ℕ → Result ℕ Fault → Result Rest Fault
-behind_text bytes (Ok at) = Ok (rest_from bytes at)
-behind_text bytes (Err f) = Err f
-
-abbrev pub behind_number : List ℕ → Result Size Fault → Result Number Fault
-behind_number bytes (Ok n) = Ok (record { value = n.value; behind = rest_from bytes n.behind })
-behind_number bytes (Err f) = Err f
+-- a number that was read, and what is left behind its line
+abbrev pub sized : ℕ × Cursor → Number
+sized n = record { value = n.0; behind = rest_of n.1 }
 
 -- what comes of the file once its heading is read
-abbrev pub behind_heading : List ℕ → Result Heading Fault → Result Grid Fault
-behind_heading bytes (Ok h) = do
-  free ← body h.height h.width h.width h.rows (drop h.rows bytes)
+abbrev pub behind_heading : Result Heading Fault → Result Grid Fault
+behind_heading (Ok h) = do
+  free ← body h.height h.width h.width h.rows.at h.rows.bytes.now
   Ok (record { height = h.height; width = h.width; free = free })
-behind_heading bytes (Err f) = Err f
+behind_heading (Err f) = Err f
+
+-- cells that are read, before those that are left
+abbrev pub after_cells : List Bool → Result (List Bool) Fault → Result (List Bool) Fault
+after_cells cells (Ok others) = Ok (cells ++ others)
+after_cells cells (Err f) = Err f
+
+-- one row leads from the cells so far to more, whatever rows are to follow, or is refused
+abbrev pub ReadsRow : ℕ → Cursor → List Bool → List Bool → Result Cursor ReadError → Type 0
+ReadsRow width row before after (Ok rest) = (rows : ℕ) → after_cells before (body (suc rows) width width row.at row.bytes.now) ≡ after_cells after (body rows width width rest.at rest.bytes.now)
+ReadsRow width row before after (Err (Faulty f)) = (rows : ℕ) → after_cells before (body (suc rows) width width row.at row.bytes.now) ≡ Err f
+ReadsRow width row before after (Err NoMemory) = Unit {0}
 
 -- a cell that was read, before the cells behind it
 abbrev pub before_others : Result Bool Fault → Result (List Bool) Fault → Result (List Bool) Fault
@@ -35,8 +43,3 @@ before_others (Err f) others = Err f
 -- the sign at the offset says what was read of it, whatever the cells behind it
 abbrev pub ReadsCell : ℕ → ℕ → Result Bool Fault → Type 0
 ReadsCell sign at free = (others : Result (List Bool) Fault) → cell (sign_of sign) (sign == 10) at others ≡ before_others free others
-
--- the digit that the bytes begin with
-abbrev pub first_digit : List ℕ → Option ℕ
-first_digit [] = None
-first_digit (b ∷ bs) = cond (is_digit b) (Some (b - 48)) None

@@ -6,3 +6,4 @@ pub mod GridFiles
 pub mod GridLayout
 pub mod GridReads
 pub mod MapFiles
+pub mod Leading

@@ -1,5 +1,5 @@
 -- What the parts of the list reader answer, in the terms of the reading that is defined.
-use Rattle.std.specs.Prelude.{◌≡◌, ℕ, ◌+◌, List, drop, Ok, Err, Result}
+use Rattle.std.specs.Prelude.{◌≡◌, ℕ, ◌+◌, ◌<◌, List, [], ◌++◌, length, Ok, Err, Result}
 use Rattle.maps.specs.Networks.{Network}
 use Rattle.maps.specs.declared.refusal.MapError.{MapError}
 use Rattle.maps.specs.declared.refusal.MapError.TheVariants.{Refused, NoMemory as MapNoMemory}
@@ -9,10 +9,10 @@ use Rattle.mapfile.specs.declared.fault.Fault.{Fault}
 use Rattle.mapfile.specs.declared.fault.ReadError.{ReadError}
 use Rattle.mapfile.specs.declared.fault.ReadError.TheVariants.{Fault as Faulty, NoMemory}
 
--- one command at an offset leads from a network to the next, or is refused
+-- one command leads from a network to the next, whatever stands behind it, or is refused
 abbrev pub Connects : List ℕ → ℕ → Network → Network → Result (Unit {0}) Fault → Type 0
-Connects bytes at before after (Ok _) = connecting before at (drop at bytes) ≡ connecting after (at + 5) (drop (at + 5) bytes)
-Connects bytes at before after (Err f) = connecting before at (drop at bytes) ≡ Err f
+Connects command at before after (Ok _) = (bytes : List ℕ) → connecting before at (command ++ bytes) ≡ connecting after (at + 5) bytes
+Connects command at before after (Err f) = (bytes : List ℕ) → (length command < 5 → bytes ≡ []) → connecting before at (command ++ bytes) ≡ Err f
 
 -- why no map was made, as an error of the file
 abbrev pub error_at : MapError → ℕ → ReadError

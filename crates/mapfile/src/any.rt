@@ -16,14 +16,14 @@ pub fn read_map(heap: Global, bytes: &[u8]) -> Result<AnyMap, ReadError>
     ensures first { MapFaultIsFirst bytes.now }
 {
     if is_list(bytes) {
-        Ok(AnyMap::List(read_list(heap, bytes)?))
+        read_list(heap, bytes).map(AnyMap::List)
     } else {
-        Ok(AnyMap::Grid(read_grid(heap, bytes)?))
+        read_grid(heap, bytes).map(AnyMap::Grid)
     }
 }
 
 fn is_list(bytes: &[u8]) -> bool
     ensures { result ≡ is_list bytes.now }
 {
-    bytes.len() > 0 && bytes[0] == b'P'
+    bytes.first() == Some(&b'P')
 }

@@ -1,6 +1,7 @@
 #![tactic(auto)]
 
 mod any;
+mod cursor;
 mod fault;
 mod grid;
 mod list;

@@ -1,4 +1,4 @@
-pub mod Rows
 pub mod Members
 pub mod Founding
 pub mod Gridding
+pub mod Sides

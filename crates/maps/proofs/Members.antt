@@ -1,15 +1,18 @@
--- The steps of a loop that looks for a number in a list.
-use Rattle.std.proofs.Common.{◌≡◌, ℕ, ◌+◌, ◌<◌, ◌≤◌, true, false, ◌||◌, List, length, get_or, drop, ap, ◌∙◌}
-use Rattle.std.proofs.lemmas.List.{at_drop_more, at_drop_all}
-use Rattle.std.proofs.lemmas.Bool.{eq-eqb, ne_eqb}
+-- Places and their numbers: as many, and with the same among them.
+use Rattle.std.proofs.Common.{◌≡◌, ℕ, ◌<◌, List, [], ◌∷◌, ◌||◌, length, get_or, nat_eq, ap, refl}
+use Rattle.std.specs.List.{list_any}
+use Rattle.std.proofs.lemmas.List.{length-map, get_or-map}
+use Rattle.floor.specs.declared.Place.{Place}
 use Rattle.maps.specs.Members.{has}
+use Rattle.maps.specs.Tables.{listed, numbers}
+use Rattle.arrayvec.specs.ArrayVec.{ArrayVec, array_vec_len}
 
-module _ (q : ℕ) (xs : List ℕ) (i : ℕ) where
-  pub has_here : i < length xs → get_or xs i 0 ≡ q → has q (drop i xs) ≡ true
-  has_here h e = at_drop_more (has q) xs i 0 h ∙ ap (λ b. b || has q (drop (i + 1) xs)) (eq-eqb (get_or xs i 0) q e)
+pub has_numbers : (ps : List Place) (q : ℕ) → has q (numbers ps) ≡ list_any (λ p. nat_eq p.0 q) ps
+has_numbers [] q = refl
+has_numbers (p ∷ ps) q = ap (λ b. nat_eq p.0 q || b) (has_numbers ps q)
 
-  pub has_further : i < length xs → (get_or xs i 0 ≡ q → ⊥) → has q (drop i xs) ≡ has q (drop (i + 1) xs)
-  has_further h e = at_drop_more (has q) xs i 0 h ∙ ap (λ b. b || has q (drop (i + 1) xs)) (ne_eqb (get_or xs i 0) q e)
+pub length_numbers : (ps : List Place) → length (numbers ps) ≡ length ps
+length_numbers ps = length-map ps (λ p. p.0)
 
-  pub has_nowhere : length xs ≤ i → has q (drop i xs) ≡ false
-  has_nowhere h = at_drop_all (has q) xs i h
+pub get_or_row : (r : ArrayVec Place) (i : ℕ) (d : Place) → i < array_vec_len r → get_or (listed r) i 0 ≡ (get_or r.items i d).0
+get_or_row r i d lt = get_or-map (λ p. p.0) r.items i d 0 lt

@@ -5,11 +5,12 @@ use Rattle.floor.specs.Floor.{Joined, Lawful}
 use Rattle.floor.proofs.Neighbours.{has_from_joined, joined_from_has}
 use Rattle.std.proofs.lemmas.Nat.{mod_below, mul-le}
 use Rattle.std.proofs.lemmas.List.Elements.{All-cons, All-contains, All-nil, Contains-append_right}
+use Rattle.std.proofs.lemmas.List.Kept.{AllPairs-cons, AllPairs-filter}
 use Rattle.std.proofs.lemmas.List.{get_or_past}
 use Rattle.std.proofs.lemmas.Bool.{both_ways, cases_lt, cond_both, eqb-false, le-ltb, ltb-false, ne_eqb}
 use Rattle.maps.specs.Grids.{Grid, NeighboursAreBeside, NextTo, SideBySide, Sized, above, around, below, beside, free_at, grid_floor, left, right}
 use Rattle.maps.specs.Cells.{next_from_step_right, step_down_from_sum, step_right_from_previous, step_right_to_next, sum_from_step_down}
-use Rattle.maps.specs.Lists.{Differ, all_unless, cond_has, differ_kept_by, differ_unless, has_from_cond, has_from_kept_by, has_unless, kept_by_has, length_kept_by_most, length_unless, once_from_differ}
+use Rattle.maps.specs.Lists.{Differ, all_unless, cond_has, differ_nil, differ_unless, has_from_cond, has_from_kept_by, has_unless, kept_by_has, length_kept_by_most, length_unless, once_from_differ}
 
 -- ---- the cells beside a cell
 
@@ -42,7 +43,7 @@ module _ (width : ℕ) (some : 1 ≤ width) (p : ℕ) where
       differ_unless (p - width) _ _
       (λ e. let up = ltb-false p width e in all_from_left width p (λ y. p - width ≢ y) (λ inner is. omega arith) (λ inner is. omega arith) (λ is. omega arith))
       (differ_unless (p - 1) _ _ (λ e. all_from_right width p (λ y. p - 1 ≢ y) (λ inner is. omega arith) (λ is. omega arith))
-      (differ_unless (p + 1) _ _ (λ e. let inner = eqb-false (p % width + 1) width e in All-cons (λ y. p + 1 ≢ y) (p + width) [] (λ is. omega arith) (All-nil (λ y. p + 1 ≢ y))) (All-nil (λ y. p + width ≢ y), tt)))
+      (differ_unless (p + 1) _ _ (λ e. let inner = eqb-false (p % width + 1) width e in All-cons (λ y. p + 1 ≢ y) (p + width) [] (λ is. omega arith) (All-nil (λ y. p + 1 ≢ y))) (AllPairs-cons (λ a b. a ≢ b) (p + width) [] (All-nil (λ y. p + width ≢ y)) differ_nil)))
 
   all_side_by_side : All (SideBySide width p) (beside width p)
   all_side_by_side =
@@ -112,7 +113,7 @@ module _ (g : Grid) (sized : Sized g) where
   around_differ : (p : ℕ) → Differ (around g p)
   unfolding around
   around_differ p =
-      cond_both (free_at g p) _ [] Differ (λ _. differ_kept_by (free_at g) _ (beside_differ g.width sized.some_columns p)) (λ _. tt)
+      cond_both (free_at g p) _ [] Differ (λ _. AllPairs-filter (λ a b. a ≢ b) (free_at g) _ (beside_differ g.width sized.some_columns p)) (λ _. differ_nil)
 
   pub grid_lawful : Lawful (grid_floor g)
   grid_lawful =

@@ -2,8 +2,8 @@
 use Rattle.std.specs.Prelude.{◌≡◌, ℕ, ◌<◌, ◌⊎◌, List, [], ◌∷◌, ◌++◌, length, Ok, refl}
 use Rattle.std.proofs.Common.{inl, inr, ⊎_elim, sym, arith}
 use Rattle.std.proofs.lemmas.List.{length_push}
-use Rattle.std.proofs.lemmas.Bool.{leb-false, eqb-false, not-true, or_parts}
-use Rattle.std.proofs.lemmas.Bool.Decides.{Decides-not, not_from_Decides}
+use Rattle.std.proofs.lemmas.Bool.Decides.{not_from_Decides}
+use Rattle.floor.proofs.Deciding.{false_from_decides}
 use Rattle.floor.specs.Floor.{Joined, Lawful}
 use Rattle.maps.specs.Networks.{Network, Links, Linked, Proper, JoiningIsProper, partners, network_floor, with_connection, joining}
 use Rattle.maps.specs.declared.connection.Connection.{Connection}
@@ -35,34 +35,33 @@ module _ (n : Network) (c : Connection) where
 
   pub fit_first : joining n c ≡ Ok (with_connection n c) → Fit n one other
   fit_first h =
-      let tests = passed_from_ok n c _ h in
-      record {
-        on = leb-false n.places one (or_parts _ _ tests.on).0;
-        apart = eqb-false one other (or_parts _ _ tests.new).0;
-        new = not_from_Decides _ (decides_partner one other cs) (or_parts _ _ tests.new).1;
-        room = leb-false 8 _ (or_parts _ _ tests.room).0;
-      }
+      let tests = (passed_from_ok n c _ h).0 in
+      record { on = tests.first_on; apart = tests.apart; new = not_from_Decides _ (decides_partner one other cs) tests.new; room = tests.first_room }
 
   pub fit_second : joining n c ≡ Ok (with_connection n c) → Fit n other one
   fit_second h =
-      let tests = passed_from_ok n c _ h in let first = fit_first h in
-      record {
-        on = leb-false n.places other (or_parts _ _ tests.on).1;
-        apart = λ e. first.apart (sym e);
-        new = λ l. first.new (linked_back other one cs l);
-        room = leb-false 8 _ (or_parts _ _ tests.room).1;
-      }
+      let tests = (passed_from_ok n c _ h).0 in
+      record { on = tests.second_on; apart = λ e. tests.apart (sym e); new = λ l. (fit_first h).new (linked_back other one cs l); room = tests.second_room }
 
   pub fits_from_joining : joining n c ≡ Ok (with_connection n c) → Fits n c
   fits_from_joining h = record {
-    few = leb-false 4096 (length cs) (passed_from_ok n c _ h).few;
+    few = (passed_from_ok n c _ h).0.few;
     ends = λ p q. ⊎_elim (λ l. rw (l.0, l.1) at (fit_first h)) (λ l. rw (l.0, l.1) at (fit_second h));
   }
 
   pub joining_from_fits : Fits n c → joining n c ≡ Ok (with_connection n c)
   joining_from_fits fits =
       let first = fits.ends one other (inl (refl, refl)) in let second = fits.ends other one (inr (refl, refl)) in
-      joining_ok n c fits.few first.on second.on first.apart (not-true _ ((Decides-not _ (decides_partner one other cs)).1 first.new)) first.room second.room
+      joining_ok n c
+      (record {
+        few = fits.few;
+        first_on = first.on;
+        second_on = second.on;
+        apart = first.apart;
+        new = false_from_decides _ (decides_partner one other cs) first.new;
+        first_room = first.room;
+        second_room = second.room;
+      })
 
   pub proper_from_fits : Proper n → Fits n c → Proper (with_connection n c)
   proper_from_fits proper fits = record {

@@ -1,11 +1,13 @@
 -- Lists in general: what a filter keeps, a list with no number twice, and one that is there only under a test. Speaks
 -- of no floor.
-use Rattle.std.specs.Prelude.{◌≡◌, ℕ, zero, suc, ◌+◌, ◌≤◌, Bool, true, false, cond, not, List, [], ◌∷◌, ◌++◌, length, All, Contains, filter, ◌≢◌, refl}
-use Rattle.std.proofs.Common.{sym, ap, arith}
+use Rattle.std.specs.Prelude.{◌≡◌, ℕ, ◌+◌, ◌≤◌, Bool, true, false, cond, not, List, [], ◌∷◌, ◌++◌, length, All, Contains, filter, ◌≢◌, refl}
+use Rattle.std.proofs.Common.{⊎_elim, sym, arith}
+use Rattle.std.specs.List.{AllPairs}
+use Rattle.std.proofs.lemmas.List.Kept.{AllPairs-cons}
 use Rattle.maps.specs.Once.{Once}
-use Rattle.std.proofs.lemmas.List.Elements.{All-nil, All-cons, All-weaker, All-get_or, All-contains, All-contains_itself, All-filter, Contains-append_right, filter_passes}
+use Rattle.std.proofs.lemmas.List.Elements.{All-nil, All-cons, All-weaker, All-contains, All-contains_itself, All-filter, Contains-append_right, filter_passes}
 use Rattle.std.proofs.lemmas.List.Filters.{length-filter_both}
-use Rattle.std.proofs.lemmas.Bool.{both_ways, cond_both, false≢true, true≢false}
+use Rattle.std.proofs.lemmas.Bool.{both_ways, cases_lt, cond_both, false≢true, true≢false}
 
 -- ---- what a filter keeps
 
@@ -32,21 +34,14 @@ module _ {X : Type 0} (test : X → Bool) where
 -- ---- no number twice
 
 abbrev pub Differ : List ℕ → Type 0
-Differ [] = Unit {0}
-Differ (x ∷ xs) = All (λ y. x ≢ y) xs × Differ xs
+Differ = AllPairs (λ x y. x ≢ y)
+
+pub differ_nil : Differ []
+differ_nil i j d before within = absurd (omega arith)
 
 pub once_from_differ : (xs : List ℕ) → Differ xs → Once xs
-once_from_differ [] h i j hi hj e = absurd (omega arith)
-once_from_differ (x ∷ xs) h zero zero hi hj e = refl
-once_from_differ (x ∷ xs) h zero (suc j) hi hj e = absurd (All-get_or (λ y. x ≢ y) xs j 0 (omega arith) h.0 e)
-once_from_differ (x ∷ xs) h (suc i) zero hi hj e = absurd (All-get_or (λ y. x ≢ y) xs i 0 (omega arith) h.0 (sym e))
-once_from_differ (x ∷ xs) h (suc i) (suc j) hi hj e = ap suc (once_from_differ xs h.1 i j (omega arith) (omega arith) e)
-
-pub differ_kept_by : (test : ℕ → Bool) (xs : List ℕ) → Differ xs → Differ (filter test xs)
-differ_kept_by test [] h = tt
-differ_kept_by test (x ∷ xs) h =
-    cond_both (test x) (x ∷ filter test xs) (filter test xs) Differ (λ _. (All-filter test (λ y. x ≢ y) xs h.0, differ_kept_by test xs h.1))
-    (λ _. differ_kept_by test xs h.1)
+once_from_differ xs h i j hi hj e =
+    ⊎_elim (λ lt. absurd (h i j 0 lt hj e)) (λ ge. ⊎_elim (λ lt. absurd (h j i 0 lt hi (sym e))) (λ le. omega arith) (cases_lt j i)) (cases_lt i j)
 
 -- ---- a list that is there only under a test
 
@@ -67,7 +62,7 @@ module _ (x : ℕ) (ys : List ℕ) where
 
   pub differ_unless : (b : Bool) → (b ≡ false → All (λ y. x ≢ y) ys) → Differ ys → Differ (cond b [] (x ∷ []) ++ ys)
   differ_unless true h k = k
-  differ_unless false h k = (h refl, k)
+  differ_unless false h k = AllPairs-cons (λ a b. a ≢ b) x ys (h refl) k
 
   pub has_unless : (b : Bool) (y : ℕ) → b ≡ false → x ≡ y → Contains (cond b [] (x ∷ []) ++ ys) y
   has_unless true y off is = absurd (true≢false off)

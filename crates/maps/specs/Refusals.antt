@@ -1,5 +1,7 @@
--- The number of each refusal.
-use Rattle.std.specs.Prelude.{ℕ}
+-- The number and the word of each refusal.
+use Rattle.std.specs.Prelude.{ℕ, List, codes}
+use Rattle.maps.specs.declared.refusal.MapError.{MapError}
+use Rattle.maps.specs.declared.refusal.MapError.TheVariants.{Refused, NoMemory}
 use Rattle.maps.specs.declared.refusal.MapRefusal.{MapRefusal}
 use Rattle.maps.specs.declared.refusal.MapRefusal.TheVariants.{Headless, Gauge, Ragged, StrangeSign, Count, NoPlace, Twice, Crowded, Letter, CutShort}
 
@@ -14,3 +16,19 @@ number_of Twice = 7
 number_of Crowded = 8
 number_of Letter = 21
 number_of CutShort = 22
+
+abbrev pub word_of : MapRefusal → List ℕ
+word_of Headless = codes "headless"
+word_of Gauge = codes "gauge"
+word_of Ragged = codes "ragged"
+word_of StrangeSign = codes "strange sign"
+word_of Count = codes "count"
+word_of NoPlace = codes "no place"
+word_of Twice = codes "twice"
+word_of Crowded = codes "crowded"
+word_of Letter = codes "letter"
+word_of CutShort = codes "cut short"
+
+abbrev pub text_of : MapError → List ℕ
+text_of (Refused e) = word_of e
+text_of NoMemory = codes "out of memory"

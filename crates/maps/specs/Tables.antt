@@ -1,11 +1,14 @@
--- A table of rows, as the lists that it stands for.
+-- Rows of places and a table of rows, as the lists of numbers that they stand for.
 use Rattle.std.specs.Prelude.{ℕ, List, [], map, slice_index_or}
-use Rattle.maps.specs.Rows.{row_list}
-use Rattle.maps.specs.declared.row.Row.{Row}
+use Rattle.arrayvec.specs.ArrayVec.{ArrayVec}
+use Rattle.floor.specs.declared.Place.{Place}
 
-abbrev pub listed : Row → List ℕ
-listed r = row_list r.len r.places
+abbrev pub numbers : List Place → List ℕ
+numbers places = map (λ p. p.0) places
+
+abbrev pub listed : ArrayVec Place → List ℕ
+listed r = numbers r.items
 
 -- the row of place p, empty past the table's end
-abbrev pub row_of : List Row → ℕ → List ℕ
+abbrev pub row_of : List (ArrayVec Place) → ℕ → List ℕ
 row_of rows p = slice_index_or (map listed rows) p []

@@ -1,35 +1,42 @@
 -- The rows of a table, after a read and after a write.
 use Rattle.std.specs.Prelude.{◌≡◌, ℕ, ◌<◌, ◌≤◌, List, [], ◌∷◌, ◌++◌, map, length, get_or, replicate, ◌≢◌, slice_index_or, slice_set, refl}
 use Rattle.std.proofs.Common.{inl, inr, ⊎_elim, sym, ap, subst, ◌∙◌, arith}
-use Rattle.std.proofs.lemmas.List.{length-map, length-set, length-replicate, get_or-map, get_or_past, get_or-replicate, get_or-set_same, get_or-set_other, map-set}
+use Rattle.std.proofs.lemmas.List.{length-map, length-set, length-replicate, get_or-map, get_or_past, get_or-replicate, get_or-set_same, get_or-set_other, map-set, map_push}
 use Rattle.std.proofs.lemmas.Bool.{cases_eq, cases_lt}
 use Rattle.maps.specs.Networks.{partners}
-use Rattle.maps.specs.Tables.{listed, row_of}
+use Rattle.maps.specs.Tables.{listed, numbers, row_of}
 use Rattle.maps.specs.declared.connection.Connection.{Connection}
-use Rattle.maps.specs.declared.row.Row.{Row}
+use Rattle.arrayvec.specs.ArrayVec.{ArrayVec, array_vec_len}
+use Rattle.floor.specs.declared.Place.{Place}
 use Rattle.maps.specs.Partners.{leads_from_links, passes_from_apart, partners_push, partners_past}
 
-pub row_read : (rows : List Row) (p : ℕ) (r : Row) → p < length rows → r ≡ slice_index_or rows p r → listed r ≡ row_of rows p
+pub length_listed : (r : ArrayVec Place) → length (listed r) ≡ array_vec_len r
+length_listed r = length-map r.items (λ p. p.0)
+
+pub row_push : (r more : ArrayVec Place) (q : Place) → more.items ≡ r.items ++ q ∷ [] → listed more ≡ listed r ++ q.0 ∷ []
+row_push r more q e = ap numbers e ∙ map_push (λ p. p.0) r.items q
+
+pub row_read : (rows : List (ArrayVec Place)) (p : ℕ) (r : ArrayVec Place) → p < length rows → r ≡ slice_index_or rows p r → listed r ≡ row_of rows p
 row_read rows p r h e = ap listed e ∙ sym (get_or-map listed rows p r [] h)
 
-pub row_past : (rows : List Row) (p : ℕ) → length rows ≤ p → row_of rows p ≡ []
+pub row_past : (rows : List (ArrayVec Place)) (p : ℕ) → length rows ≤ p → row_of rows p ≡ []
 row_past rows p h = let long = length-map rows listed in get_or_past (map listed rows) p [] (omega arith)
 
-pub row_of_same : (n : ℕ) (r : Row) (p : ℕ) → listed r ≡ [] → row_of (replicate n r) p ≡ []
+pub row_of_same : (n : ℕ) (r : ArrayVec Place) (p : ℕ) → listed r ≡ [] → row_of (replicate n r) p ≡ []
 row_of_same n r p e =
     let long = length-replicate n r in
     ⊎_elim (λ lt. get_or-map listed (replicate n r) p r [] (omega arith) ∙ ap listed (get_or-replicate n p r r lt) ∙ e) (λ ge. row_past (replicate n r) p (omega arith))
     (cases_lt p n)
 
-pub row_of_set : (rows : List Row) (i : ℕ) (r : Row) → i < length rows → row_of (slice_set rows i r) i ≡ listed r
+pub row_of_set : (rows : List (ArrayVec Place)) (i : ℕ) (r : ArrayVec Place) → i < length rows → row_of (slice_set rows i r) i ≡ listed r
 row_of_set rows i r h =
     let long = length-map rows listed in ap (λ xs. get_or xs i []) (map-set listed rows i r) ∙ get_or-set_same (map listed rows) i (listed r) [] (omega arith)
 
-pub row_of_set_other : (rows : List Row) (i p : ℕ) (r : Row) → (p ≢ i) → row_of (slice_set rows i r) p ≡ row_of rows p
+pub row_of_set_other : (rows : List (ArrayVec Place)) (i p : ℕ) (r : ArrayVec Place) → (p ≢ i) → row_of (slice_set rows i r) p ≡ row_of rows p
 row_of_set_other rows i p r ne = ap (λ xs. get_or xs p []) (map-set listed rows i r) ∙ get_or-set_other (map listed rows) i p (listed r) [] ne
 
 -- the rows of both ends of a new connection each have one place more
-module _ (rows : List Row) (cs : List Connection) (c : Connection) (near far : Row) where
+module _ (rows : List (ArrayVec Place)) (cs : List Connection) (c : Connection) (near far : ArrayVec Place) where
   abbrev one : ℕ
   one = c.first.0
 

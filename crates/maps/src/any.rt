@@ -9,7 +9,7 @@ use crate::grid::GridMap;
 use crate::list::ListMap;
 use floor::{FloorMap, Place};
 
-// A map of either kind.
+// A map of either kind: an enum and no `dyn`, since there are two and the meaning is told by kind.
 #[derive(Drop)]
 pub enum AnyMap {
     List(ListMap),

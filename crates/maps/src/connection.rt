@@ -1,7 +1,7 @@
 use floor::Place;
 
 // Two places that a cart can go between, either way.
-#[derive(Clone, Copy)]
+#[derive(Clone, Copy, PartialEq, Eq, Debug)]
 pub struct Connection {
     pub first: Place,
     pub second: Place,

@@ -5,7 +5,6 @@ mod connection;
 mod grid;
 mod list;
 mod refusal;
-mod row;
 mod sign;
 
 pub use any::AnyMap;

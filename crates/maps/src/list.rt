@@ -4,7 +4,8 @@ ghost use Rattle.maps.specs.Networks.{network_floor, partners};
 ghost use Rattle.maps.specs.Tables.{row_of};
 
 use crate::connection::Connection;
-use crate::row::Row;
+use arrayvec::ArrayVec;
+use floor::Place;
 
 pub mod methods;
 
@@ -12,7 +13,8 @@ pub mod methods;
 #[derive(Drop)]
 pub struct ListMap {
     // the neighbours of each place
-    rows: Vec<Row>,
+    rows: Vec<ArrayVec<Place, 8>>,
+    // what the map means, in their order, while the rows answer questions
     connections: Vec<Connection>,
     ghost lawful: { ∥ Lawful (network_floor (record { places = rows.len; connections = connections.items })) ∥₁ },
     ghost tied: { (p : ℕ) → row_of rows.items p ≡ partners p connections.items },

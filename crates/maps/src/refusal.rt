@@ -1,47 +1,42 @@
-ghost use Rattle.std.specs.Prelude.{◌≡◌};
-ghost use Rattle.maps.specs.Refusals.{number_of};
+ghost use Rattle.std.specs.Prelude.{◌≡◌, Some};
+ghost use Rattle.maps.specs.Refusals.{number_of, word_of, text_of};
+ghost use Rattle.maps.specs.declared.refusal.MapError.TheVariants.{Refused, NoMemory};
+
+use std::alloc::AllocError;
+use std::error::Error;
+use std::fmt;
+use std::fmt::{Display, Formatter};
 
 // Why a map is refused.
 #[derive(Clone, Copy, PartialEq, Eq, Debug)]
 pub enum MapRefusal {
     // a heading line of a grid is not as laid down
-    Headless,
+    Headless = 1,
     // a grid's height or width is not 1 to 32
-    Gauge,
+    Gauge = 2,
     // a grid's row is too short, too long or not ended, or something stands behind the last one
-    Ragged,
+    Ragged = 3,
     // a sign that is neither free nor blocked
-    StrangeSign,
+    StrangeSign = 4,
     // not 1 to 1,024 places, or more than 4,096 connections
-    Count,
+    Count = 5,
     // a place that is not on the floor
-    NoPlace,
+    NoPlace = 6,
     // a connection from a place to itself, or one that is there already
-    Twice,
+    Twice = 7,
     // a ninth neighbour
-    Crowded,
+    Crowded = 8,
     // a letter that is unknown or out of its place
-    Letter,
+    Letter = 21,
     // the bytes end within a command
-    CutShort,
+    CutShort = 22,
 }
 
 impl MapRefusal {
     pub fn number(self) -> u8
         ensures { result ≡ number_of self }
     {
-        match self {
-            MapRefusal::Headless => 1,
-            MapRefusal::Gauge => 2,
-            MapRefusal::Ragged => 3,
-            MapRefusal::StrangeSign => 4,
-            MapRefusal::Count => 5,
-            MapRefusal::NoPlace => 6,
-            MapRefusal::Twice => 7,
-            MapRefusal::Crowded => 8,
-            MapRefusal::Letter => 21,
-            MapRefusal::CutShort => 22,
-        }
+        self as u8
     }
 }
 
@@ -51,3 +46,54 @@ pub enum MapError {
     Refused(MapRefusal),
     NoMemory,
 }
+
+impl From<MapRefusal> for MapError {
+    ghost from_gives = { λ refusal e. e ≡ Refused refusal };
+
+    fn from(refusal: MapRefusal) -> MapError {
+        MapError::Refused(refusal)
+    }
+}
+
+impl From<AllocError> for MapError {
+    ghost from_gives = { λ _ e. e ≡ NoMemory };
+
+    fn from(_e: AllocError) -> MapError {
+        MapError::NoMemory
+    }
+}
+
+impl Display for MapRefusal {
+    ghost output = { λ refusal. Some (word_of refusal) };
+
+    fn fmt<W: fmt::Write>(&self, f: &mut Formatter<W>) -> fmt::Result {
+        let word = match self {
+            Self::Headless => "headless",
+            Self::Gauge => "gauge",
+            Self::Ragged => "ragged",
+            Self::StrangeSign => "strange sign",
+            Self::Count => "count",
+            Self::NoPlace => "no place",
+            Self::Twice => "twice",
+            Self::Crowded => "crowded",
+            Self::Letter => "letter",
+            Self::CutShort => "cut short",
+        };
+        f.write_str(word)
+    }
+}
+
+impl Display for MapError {
+    ghost output = { λ e. Some (text_of e) };
+
+    fn fmt<W: fmt::Write>(&self, f: &mut Formatter<W>) -> fmt::Result {
+        match self {
+            Self::Refused(refusal) => write!(f, "{refusal}"),
+            Self::NoMemory => f.write_str("out of memory"),
+        }
+    }
+}
+
+impl Error for MapRefusal {}
+
+impl Error for MapError {}

@@ -1,22 +1,25 @@
 ghost use Rattle.std.specs.Prelude.{◌≡◌, ◌<◌, [], ◌∷◌, ◌++◌, length, filter};
-ghost use Rattle.maps.specs.GridMaps.{grid_of, Made};
+ghost use Rattle.maps.specs.GridMaps.{grid_of};
+ghost use Rattle.maps.specs.Made.{Made};
 ghost use Rattle.maps.specs.Grids.{around, free_at, grid_floor, gridding, GriddingIsSized, NeighboursAreBeside, Sized};
+ghost use Rattle.arrayvec.specs.ArrayVec.{array_vec_len};
 ghost use Rattle.maps.specs.Tables.{listed};
 ghost use Rattle.maps.specs.GridsLemmas.{grid_lawful};
 ghost use Rattle.maps.specs.GridMapsLemmas.{map_sized};
 
 use crate::grid::GridMap;
 use crate::refusal::MapRefusal;
-use crate::row::Row;
+use arrayvec::ArrayVec;
 use floor::{FloorMap, Place};
 
 impl GridMap {
     // A floor of so many rows and columns, from what is said of each cell.
+    #[tactic(auto, using(crate::proofs::Gridding::gridding_is_sized), unfolding(crate::specs::Grids::gridding))]
     pub fn new(height: usize, width: usize, free: Vec<bool>) -> Result<GridMap, MapRefusal>
-        ensures made { Made (gridding height width free.items) result }
+        ensures made { Made grid_of Some (gridding height width free.items) result }
         ensures sized { GriddingIsSized }
     {
-        if height < 1 || height > 32 || width < 1 || width > 32 {
+        if !(1..=32).contains(&height) || !(1..=32).contains(&width) {
             return Err(MapRefusal::Gauge);
         }
         if free.len() != height * width {
@@ -35,49 +38,46 @@ impl GridMap {
         ensures sized { Sized (grid_of self.now) }
         ensures beside { NeighboursAreBeside (grid_of self.now) }
     {
-        self.free_at(p.0 as usize)
+        self.free_at(usize::from(p))
     }
 
     fn free_at(&self, p: usize) -> bool
         ensures { result ≡ free_at (grid_of self.now) p }
     {
-        match self.free.get(p) {
-            Some(free) => *free,
-            None => false,
-        }
+        self.free.get(p).copied().unwrap_or(false)
     }
 
-    // The row with `q` at its end, if that is free.
-    fn with_free(&self, row: Row, q: usize) -> Row
-        requires { length (listed row) < 8 }
-        ensures { listed result ≡ listed row ++ filter (free_at (grid_of self.now)) (q ∷ []) }
+    // Adds `q` to the row, if it is free.
+    fn add_free(&self, row: &mut ArrayVec<Place, 4>, q: usize)
+        requires { array_vec_len row.old < 4 }
+        ensures { listed row.new ≡ listed row.old ++ filter (free_at (grid_of self.now)) (q ∷ []) }
     {
         if self.free_at(q) {
-            row.with(Place(q as u16))
-        } else {
-            row
+            row.push(Place(q as u16));
         }
     }
 
     // The neighbours of `p`: above, left, right, below.
-    fn around(&self, p: Place) -> Row
+    #[tactic(auto, using(crate::proofs::Sides::kept_beside, crate::proofs::Sides::none_more), unfolding(crate::specs::Grids::around))]
+    fn around(&self, p: Place) -> ArrayVec<Place, 4>
         ensures { listed result ≡ around (grid_of self.now) p.0 }
     {
-        let p = p.0 as usize;
-        let mut row = Row::empty();
+        let p = usize::from(p);
+        let mut row = ArrayVec::new();
         if !self.free_at(p) {
             return row;
         }
         if p >= self.width {
-            row = self.with_free(row, p - self.width);
+            self.add_free(&mut row, p - self.width);
         }
         if p % self.width != 0 {
-            row = self.with_free(row, p - 1);
+            self.add_free(&mut row, p - 1);
         }
         if p % self.width + 1 != self.width {
-            row = self.with_free(row, p + 1);
+            self.add_free(&mut row, p + 1);
         }
-        self.with_free(row, p + self.width)
+        self.add_free(&mut row, p + self.width);
+        row
     }
 }
 
@@ -95,6 +95,6 @@ impl FloorMap for GridMap {
     }
 
     fn neighbour(&self, p: Place, i: usize) -> Option<Place> {
-        self.around(p).get(i)
+        self.around(p).get(i).copied()
     }
 }

@@ -1,13 +1,14 @@
-ghost use Rattle.std.specs.Prelude.{◌≡◌};
-ghost use Rattle.maps.specs.ListMaps.{network_of, Made, Changed, Why};
-ghost use Rattle.maps.specs.Networks.{network_floor, founding, joining, Proper, FoundingIsProper, JoiningIsProper, NeighboursAreLinked, partners};
-ghost use Rattle.maps.specs.Tables.{listed};
+ghost use Rattle.std.specs.Prelude.{◌≡◌, IfErr, OnOk};
+ghost use Rattle.maps.specs.ListMaps.{network_of, refusal_of, Changed};
+ghost use Rattle.maps.specs.Made.{Made};
+ghost use Rattle.maps.specs.Networks.{network_floor, founding, joining, Proper, FoundingIsProper, JoiningIsProper, NeighboursAreLinked, partners, with_connection};
+ghost use Rattle.maps.specs.Tables.{numbers};
 ghost use Rattle.maps.specs.ListMapsLemmas.{proper_map};
 
 use crate::connection::Connection;
 use crate::list::ListMap;
 use crate::refusal::{MapError, MapRefusal};
-use crate::row::Row;
+use arrayvec::ArrayVec;
 use floor::{FloorMap, Place};
 use std::alloc::Global;
 
@@ -15,34 +16,29 @@ const MOST_CONNECTIONS: usize = 4096;
 
 impl ListMap {
     // A floor of so many places and no connection.
+    #[tactic(auto, using(crate::proofs::Founding::founding_is_proper), unfolding(crate::specs::Networks::founding))]
     pub fn new(heap: Global, places: u16) -> Result<ListMap, MapError>
-        ensures made { Made (founding places) result }
+        ensures made { Made network_of refusal_of (founding places) result }
         ensures proper { FoundingIsProper }
     {
-        if places < 1 || places > 1024 {
-            return Err(MapError::Refused(MapRefusal::Count));
+        if !(1..=1024).contains(&places) {
+            return Err(MapRefusal::Count.into());
         }
-        let Ok(rows) = vec![in heap; Row::empty(); places as usize] else {
-            return Err(MapError::NoMemory);
-        };
-        let Ok(connections) = Vec::with_capacity(heap, MOST_CONNECTIONS) else {
-            return Err(MapError::NoMemory);
-        };
-        Ok(ListMap { rows, connections })
+        Ok(ListMap {
+            rows: vec![in heap; ArrayVec::new(); usize::from(places)]?,
+            connections: Vec::with_capacity(heap, MOST_CONNECTIONS)?,
+        })
     }
 
     // One connection more, or why not.
+    #[tactic(auto, using(crate::specs::Joining::joining_is_proper, crate::specs::ListMapsLemmas::ends_on_floor, crate::specs::ListMapsLemmas::few_more, crate::specs::ListMapsLemmas::near_room, crate::specs::ListMapsLemmas::far_room))]
     pub fn join(&mut self, c: Connection) -> Result<(), MapRefusal>
         ensures change { Changed (joining (network_of self.old) c) self.old self.new result }
         ensures proper { JoiningIsProper }
     {
-        if let Some(why) = self.refusal(c) {
-            return Err(why);
-        }
-        let near = self.row(c.first).with(c.second);
-        let far = self.row(c.second).with(c.first);
-        self.rows[c.first.0 as usize] = near;
-        self.rows[c.second.0 as usize] = far;
+        self.test_connection(c)?;
+        self.rows[usize::from(c.first)].push(c.second);
+        self.rows[usize::from(c.second)].push(c.first);
         self.connections.push_reserved(c);
         Ok(())
     }
@@ -56,38 +52,37 @@ impl ListMap {
         self.connections.as_slice()
     }
 
-    // Why a connection may not be added, if so.
-    fn refusal(&self, c: Connection) -> Option<MapRefusal>
-        ensures { Why (network_of self.now) c result }
+    // Whether a connection may be added.
+    #[tactic(auto, using(crate::proofs::Members::has_numbers, crate::proofs::Members::length_numbers), unfolding(crate::specs::Networks::joining))]
+    fn test_connection(&self, c: Connection) -> Result<(), MapRefusal>
+        ensures taken { OnOk result (joining (network_of self.now) c ≡ Ok (with_connection (network_of self.now) c)) }
+        ensures refused { IfErr result (λ e. joining (network_of self.now) c ≡ Err e) }
     {
-        let first = c.first.0 as usize;
-        let second = c.second.0 as usize;
+        let places = self.places();
         let near = self.row(c.first);
         let far = self.row(c.second);
-        let places = self.places();
         if self.connections.len() >= MOST_CONNECTIONS {
-            return Some(MapRefusal::Count);
+            return Err(MapRefusal::Count);
         }
-        if first >= places || second >= places {
-            return Some(MapRefusal::NoPlace);
+        if usize::from(c.first) >= places || usize::from(c.second) >= places {
+            return Err(MapRefusal::NoPlace);
         }
-        if first == second || near.has(c.second) {
-            return Some(MapRefusal::Twice);
+        if c.first == c.second || near.contains(&c.second) {
+            return Err(MapRefusal::Twice);
         }
         if near.len() >= 8 || far.len() >= 8 {
-            return Some(MapRefusal::Crowded);
+            return Err(MapRefusal::Crowded);
         }
-        None
+        Ok(())
     }
 
     // The neighbours of a place: none off the floor.
-    fn row(&self, p: Place) -> Row
-        ensures { listed result ≡ partners p.0 (network_of self.now).connections }
+    fn row(&self, p: Place) -> &[Place]
+        ensures { numbers result.now ≡ partners p.0 (network_of self.now).connections }
     {
-        match self.rows.get(p.0 as usize) {
-            Some(row) => *row,
-            None => Row::empty(),
-        }
+        self.rows
+            .get(usize::from(p))
+            .map_or(&[], |row| row.as_slice())
     }
 }
 
@@ -105,6 +100,6 @@ impl FloorMap for ListMap {
     }
 
     fn neighbour(&self, p: Place, i: usize) -> Option<Place> {
-        self.row(p).get(i)
+        self.row(p).get(i).copied()
     }
 }

@@ -1,0 +1,97 @@
+ghost use Rattle.std.specs.Prelude.{◌≡◌, ◌+◌, ◌-◌, ◌*◌, ◌^◌, ◌<◌, ◌≤◌, length, drop, All, fold};
+ghost use Rattle.std.specs.Result.{result_map_both};
+ghost use Rattle.mapfile.specs.Faults.{fault};
+ghost use Rattle.mapfile.specs.GridFiles.{after_text, number_line, size_line};
+ghost use Rattle.mapfile.specs.Leading.{common_len, digit_count};
+ghost use Rattle.mapfile.specs.GridLayout.{Digit};
+
+use crate::fault::Fault;
+use maps::MapRefusal;
+
+// What is left to read of a file, and the offset where it begins.
+#[derive(Clone, Copy)]
+pub struct Cursor<'a> {
+    pub bytes: &'a [u8],
+    pub at: usize,
+    ghost fits: { at + length bytes.now < 2 ^ 64 },
+}
+
+impl<'a> Cursor<'a> {
+    ghost use Rattle.mapfile.specs.GridReads.{rest_of, sized};
+
+    // What is left behind so many bytes.
+    pub fn behind(self, count: usize) -> Cursor<'a>
+        requires { count ≤ length self.bytes.now }
+        ensures at { result.at ≡ self.entry.at + count }
+        ensures bytes { result.bytes.now ≡ drop count self.entry.bytes.now }
+    {
+        Cursor {
+            bytes: &self.bytes[count..],
+            at: self.at + count,
+        }
+    }
+
+    // What is left behind `text`, which is due here.
+    #[tactic(auto, using(crate::proofs::TextSteps::common_len_most, crate::proofs::TextSteps::text_departs, crate::proofs::TextSteps::text_read))]
+    pub fn after_text(self, text: &[u8]) -> Result<Cursor<'a>, Fault>
+        ensures { after_text text.now self.entry.at self.entry.bytes.now ≡ result_map_both rest_of (λ f. f) result }
+    {
+        let same = common_len(text, self.bytes);
+        if same < text.len() {
+            return Err(Fault::new(MapRefusal::Headless, self.at + same));
+        }
+        Ok(self.behind(same))
+    }
+
+    // A number of one to three digits that is 1 to 32, and what is left behind its line.
+    pub fn size_line(self) -> Result<(usize, Cursor<'a>), Fault>
+        ensures { size_line self.entry.at self.entry.bytes.now ≡ result_map_both sized (λ f. f) result }
+    {
+        let (size, rest) = self.number_line()?;
+        if !(1..=32).contains(&size) {
+            return Err(Fault::new(MapRefusal::Gauge, self.at));
+        }
+        Ok((size, rest))
+    }
+
+    fn number_line(self) -> Result<(usize, Cursor<'a>), Fault>
+        ensures { number_line self.entry.at self.entry.bytes.now ≡ result_map_both sized (λ f. f) result }
+    {
+        let digits = digit_count(self.bytes);
+        if digits == 0 || self.bytes.get(digits) != Some(&b'\n') {
+            return Err(Fault::new(MapRefusal::Headless, self.at + digits));
+        }
+        Ok((decimal(&self.bytes[..digits]), self.behind(digits + 1)))
+    }
+}
+
+// How many bytes are the same from the front on.
+fn common_len(text: &[u8], bytes: &[u8]) -> usize
+    ensures { result ≡ common_len text.now bytes.now }
+{
+    text.iter().zip(bytes).take_while(|(t, b)| t == b).count()
+}
+
+// How many digits the bytes begin with, of three at most.
+fn digit_count(bytes: &[u8]) -> usize
+    ensures { result ≡ digit_count 3 bytes.now }
+{
+    bytes
+        .iter()
+        .take(3)
+        .take_while(|b| b.is_ascii_digit())
+        .count()
+}
+
+// The number that some digits come to. A loop: of a fold's closure it was not proved that its product fits.
+fn decimal(digits: &[u8]) -> usize
+    requires few { length digits.now ≤ 3 }
+    requires digits { All Digit digits.now }
+    ensures { result ≡ fold (λ v b. v * 10 + (b - 48)) 0 digits.now }
+{
+    let mut value = 0;
+    for digit in digits {
+        value = value * 10 + usize::from(digit - b'0');
+    }
+    value
+}
