@@ -1,1 +1,2 @@
 pub mod Degrees
+pub mod Free

@@ -5,9 +5,9 @@
 mod carts;
 mod survey;
 
-use anyhow::anyhow;
-use floor::{FloorMap, Place};
-use mapfile::{ReadError, read_map};
+use anyhow::Context;
+use floor::{FloorMap, Place, neighbours_of};
+use mapfile::read_map;
 use maps::AnyMap;
 use std::{fs, io};
 use survey::{connections, free_cells};
@@ -29,24 +29,14 @@ fn run(rt: &HostRuntime) -> anyhow::Result<()> {
 }
 
 fn read_hall(rt: &HostRuntime, bytes: &[u8]) -> anyhow::Result<AnyMap> {
-    match read_map(rt.alloc(), bytes) {
-        Ok(map) => Ok(map),
-        Err(_) => Err(anyhow!("the hall is not read")),
-    }
+    read_map(rt.alloc(), bytes).context("the hall is not read")
 }
 
 // What a file holds, or why it is refused.
 fn tell_file(rt: &HostRuntime, name: &str, bytes: &[u8]) -> io::Result<()> {
     match read_map(rt.alloc(), bytes) {
         Ok(map) => tell_map(rt, name, &map),
-        Err(ReadError::Fault(fault)) => {
-            println!(rt;
-                "{name}: refused map {} {}",
-                fault.refusal.number(),
-                fault.offset
-            )
-        }
-        Err(ReadError::NoMemory) => println!(rt; "{name}: out of memory"),
+        Err(why) => println!(rt; "{name}: {why}"),
     }
 }
 
@@ -57,6 +47,7 @@ fn tell_map(rt: &HostRuntime, name: &str, map: &AnyMap) -> io::Result<()> {
     if let AnyMap::Grid(grid) = map {
         println!(rt; "  free cells: {}", free_cells(grid))?;
     }
+    // by number: a map is asked, and is no list
     for p in 0..places.min(8) {
         tell_neighbours(rt, map, Place(p as u16))?;
     }
@@ -64,11 +55,9 @@ fn tell_map(rt: &HostRuntime, name: &str, map: &AnyMap) -> io::Result<()> {
 }
 
 fn tell_neighbours(rt: &HostRuntime, map: &AnyMap, p: Place) -> io::Result<()> {
-    print!(rt; "  place {}:", p.0)?;
-    for i in 0..map.degree(p) {
-        if let Some(q) = map.neighbour(p, i) {
-            print!(rt; " {}", q.0)?;
-        }
+    print!(rt; "  place {p}:")?;
+    for q in neighbours_of(map, p) {
+        print!(rt; " {q}")?;
     }
     println!(rt; "")
 }
@@ -102,28 +91,49 @@ fn tell_longer(rt: &HostRuntime, done: &str, bytes: &[u8], byte: u8) -> anyhow::
     Ok(())
 }
 
+// Copies with another byte each, one that is cut, and one with a byte more.
+fn tell_damaged(
+    rt: &HostRuntime,
+    bytes: &[u8],
+    changed: &[(&str, usize, u8)],
+    (cut, end): (&str, usize),
+    (longer, byte): (&str, u8),
+) -> anyhow::Result<()> {
+    for &(done, at, byte) in changed {
+        tell_changed(rt, done, bytes, at, byte)?;
+    }
+    tell_cut(rt, cut, bytes, end)?;
+    tell_longer(rt, longer, bytes, byte)
+}
+
 fn tell_damaged_list(rt: &HostRuntime, bytes: &[u8]) -> anyhow::Result<()> {
-    tell_changed(rt, "list, no places", bytes, 2, 0)?;
-    tell_changed(rt, "list, another letter", bytes, 8, b'X')?;
-    tell_changed(rt, "list, a place off the floor", bytes, 17, 5)?;
-    tell_changed(rt, "list, a place joined to itself", bytes, 7, 0)?;
-    tell_changed(
+    tell_damaged(
         rt,
-        "list, a connection again the other way round",
         bytes,
-        12,
-        0,
-    )?;
-    tell_cut(rt, "list, cut within a command", bytes, 20)?;
-    tell_longer(rt, "list, one letter more", bytes, b'W')
+        &[
+            ("list, no places", 2, 0),
+            ("list, another letter", 8, b'X'),
+            ("list, a place off the floor", 17, 5),
+            ("list, a place joined to itself", 7, 0),
+            ("list, a connection again the other way round", 12, 0),
+        ],
+        ("list, cut within a command", 20),
+        ("list, one letter more", b'W'),
+    )
 }
 
 fn tell_damaged_grid(rt: &HostRuntime, bytes: &[u8]) -> anyhow::Result<()> {
-    tell_changed(rt, "grid, another heading", bytes, 5, b'O')?;
-    tell_changed(rt, "grid, no rows", bytes, 19, b'0')?;
-    tell_changed(rt, "grid, a row more announced", bytes, 19, b'5')?;
-    tell_changed(rt, "grid, a column less announced", bytes, 27, b'4')?;
-    tell_changed(rt, "grid, a strange sign", bytes, 40, b'?')?;
-    tell_cut(rt, "grid, cut within a row", bytes, 50)?;
-    tell_longer(rt, "grid, one sign more", bytes, b'.')
+    tell_damaged(
+        rt,
+        bytes,
+        &[
+            ("grid, another heading", 5, b'O'),
+            ("grid, no rows", 19, b'0'),
+            ("grid, a row more announced", 19, b'5'),
+            ("grid, a column less announced", 27, b'4'),
+            ("grid, a strange sign", 40, b'?'),
+        ],
+        ("grid, cut within a row", 50),
+        ("grid, one sign more", b'.'),
+    )
 }

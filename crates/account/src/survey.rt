@@ -5,14 +5,12 @@ ghost use Rattle.maps.specs.GridMaps.{grid_of};
 use floor::{FloorMap, Place};
 use maps::GridMap;
 
-// How many connections a floor has: each is counted at both of its ends.
+// How many connections a floor has: each is counted at both of its ends. Places have numbers below the floor's count,
+// so nothing is lost by `as`.
 pub fn connections<M: FloorMap>(map: &M) -> usize
     ensures { result ≡ degrees (M.FloorMap.floor map.now) (M.FloorMap.floor map.now).count / 2 }
 {
-    let mut ends = 0;
-    for p in 0..map.places() {
-        ends += map.degree(Place(p as u16));
-    }
+    let ends: usize = (0..map.places()).map(|p| map.degree(Place(p as u16))).sum();
     ends / 2
 }
 
@@ -20,11 +18,7 @@ pub fn connections<M: FloorMap>(map: &M) -> usize
 pub fn free_cells(grid: &GridMap) -> usize
     ensures { result ≡ count_by (λ free. free) (grid_of grid.now).free }
 {
-    let mut free = 0;
-    for p in 0..grid.places() {
-        if grid.is_free(Place(p as u16)) {
-            free += 1;
-        }
-    }
-    free
+    (0..grid.places())
+        .filter(|p| grid.is_free(Place(*p as u16)))
+        .count()
 }

@@ -2,8 +2,7 @@
 use Rattle.std.specs.Prelude.{◌≡◌, ℕ, Bool, true, false, List, [], ◌∷◌, ◌++◌, Some, Ok, Err, codes, All, Option, Result}
 use Rattle.floor.specs.Floor.{Floor}
 use Rattle.maps.specs.AnyMaps.{Hall, listed, gridded}
-use Rattle.maps.specs.Networks.{Network, network_floor}
-use Rattle.maps.specs.declared.connection.Connection.{Connection}
+use Rattle.maps.specs.Networks.{network_floor}
 use Rattle.maps.specs.declared.refusal.MapRefusal.TheVariants.{Headless, Gauge, NoPlace, Twice}
 use Rattle.mapfile.specs.Faults.{fault}
 use Rattle.mapfile.specs.MapFiles.{map_reading}
@@ -12,6 +11,8 @@ use Rattle.motion.specs.Listed.{in_conflict}
 use Rattle.motion.specs.declared.ban.Ban.{Ban}
 use Rattle.motion.specs.declared.ban.Ban.TheVariants.{Late}
 use Rattle.motion.specs.declared.trip.Trip.{Trip}
+use Rattle.samples.specs.Floors.{line, small_floor}
+use Rattle.samples.specs.Trips.{trip}
 use Rattle.search.specs.Least.{least_length}
 
 pub data Case : Type 0 where
@@ -26,20 +27,6 @@ abbrev pub Holds : Case → Type 0
 Holds (reading bytes outcome) = map_reading bytes ≡ outcome
 Holds (meeting ps qs conflict) = in_conflict ps qs ≡ conflict
 Holds (shortest f trips bans a limit length) = least_length f trips bans a limit ≡ length
-
-abbrev pub between : ℕ → ℕ → Connection
-between p q = record { first = record { 0 = p }; second = record { 0 = q } }
-
-abbrev pub trip : ℕ → ℕ → Trip
-trip p q = record { start = record { 0 = p }; target = record { 0 = q } }
-
--- five places: a way of four, and a bay at its third place
-abbrev pub small_floor : Network
-small_floor = record { places = 5; connections = between 0 1 ∷ between 1 2 ∷ between 2 3 ∷ between 2 4 ∷ [] }
-
--- six places in a line
-abbrev pub line : Network
-line = record { places = 6; connections = between 0 1 ∷ between 1 2 ∷ between 2 3 ∷ between 3 4 ∷ between 4 5 ∷ [] }
 
 abbrev pub readings : List Case
 readings =

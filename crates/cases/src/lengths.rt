@@ -1,8 +1,8 @@
-use crate::routes::small_floor;
 use floor::{Cart, Place, Tick};
 use maps::ListMap;
 use motion::{Ban, Length, Trip};
-use search::{Workspace, can_stand, cheaper, least_length};
+use samples::{small_floor, small_trips};
+use search::{Branch, Workspace};
 use std::io;
 
 const CART: Cart = Cart(0);
@@ -10,200 +10,123 @@ const CART: Cart = Cart(0);
 const OTHER: Cart = Cart(1);
 
 pub fn run(rt: &HostRuntime) -> anyhow::Result<()> {
-    let map = small_floor(rt.alloc())?;
-    let mut work = Workspace::new(rt.alloc())?;
-    tell_arrivals(rt, &mut work, &map)?;
-    tell_closures(rt, &mut work, &map)?;
-    tell_stands(rt, &mut work, &map)?;
-    tell_sums(rt, &mut work, &map)?;
+    let mut scene = Scene {
+        rt,
+        work: Workspace::new(rt.alloc())?,
+        map: small_floor(rt.alloc())?,
+        trips: small_trips(),
+    };
+    scene.tell_arrivals()?;
+    scene.tell_closures()?;
+    scene.tell_stands()?;
+    scene.tell_sums()?;
     Ok(())
 }
 
-fn trips() -> [Trip; 2] {
-    let way = Trip {
-        start: Place(0),
-        target: Place(3),
-    };
-    let bay = Trip {
-        start: Place(4),
-        target: Place(2),
-    };
-    [way, bay]
+// The small floor with its two carts, and where to tell of them.
+#[derive(Drop)]
+struct Scene<'a> {
+    rt: &'a HostRuntime,
+    work: Workspace,
+    map: ListMap,
+    trips: [Trip; 2],
 }
 
-fn tell_least(
-    rt: &HostRuntime,
-    what: &str,
-    work: &mut Workspace,
-    map: &ListMap,
-    cart: Cart,
-    limit: u16,
-    bans: &[Ban],
-) -> io::Result<()> {
-    match least_length(work, map, &trips(), bans, cart, Length(Tick(limit))) {
-        Some(length) => println!(rt; "{what}: {}", length.0.0),
-        None => println!(rt; "{what}: none below {limit}"),
-    }
-}
-
-fn stand(place: u16, first: u16, last: u16) -> Ban {
-    Ban::Stand {
-        cart: CART,
-        place: Place(place),
-        first: Tick(first),
-        last: Tick(last),
-    }
-}
-
-// The way from 0 to 3 takes three steps.
-fn tell_arrivals(rt: &HostRuntime, work: &mut Workspace, map: &ListMap) -> io::Result<()> {
-    tell_least(rt, "no bans", work, map, CART, 10, &[])?;
-    tell_least(rt, "no bans, searched below 3", work, map, CART, 3, &[])?;
-    tell_least(rt, "a cart that is not there", work, map, Cart(2), 10, &[])?;
-    tell_least(
-        rt,
-        "no standing at the start at tick 0",
-        work,
-        map,
-        CART,
-        10,
-        &[stand(0, 0, 0)],
-    )?;
-    tell_least(
-        rt,
-        "no standing at 1 at tick 1",
-        work,
-        map,
-        CART,
-        10,
-        &[stand(1, 1, 1)],
-    )?;
-    tell_least(
-        rt,
-        "no standing at the target at tick 8",
-        work,
-        map,
-        CART,
-        20,
-        &[stand(3, 8, 8)],
-    )?;
-    tell_least(
-        rt,
-        "no standing at the target at tick 4,000",
-        work,
-        map,
-        CART,
-        4000,
-        &[stand(3, 4000, 4000)],
-    )?;
-    tell_least(
-        rt,
-        "the same, searched further",
-        work,
-        map,
-        CART,
-        4002,
-        &[stand(3, 4000, 4000)],
-    )?;
-    tell_least(
-        rt,
-        "late 4,000",
-        work,
-        map,
-        CART,
-        4002,
-        &[Ban::Late {
+impl Scene<'_> {
+    // The way from 0 to 3 takes three steps.
+    fn tell_arrivals(&mut self) -> io::Result<()> {
+        let late = Ban::Late {
             cart: CART,
             tick: Tick(4000),
-        }],
-    )
-}
-
-fn tell_closures(rt: &HostRuntime, work: &mut Workspace, map: &ListMap) -> io::Result<()> {
-    let go = Ban::Move {
-        cart: CART,
-        from: Place(1),
-        to: Place(2),
-        first: Tick(2),
-        last: Tick(2),
-    };
-    tell_least(
-        rt,
-        "no move from 1 to 2 arriving at tick 2",
-        work,
-        map,
-        CART,
-        10,
-        &[go],
-    )?;
-    tell_least(
-        rt,
-        "by 3",
-        work,
-        map,
-        CART,
-        10,
-        &[Ban::By {
-            cart: CART,
-            tick: Tick(3),
-        }],
-    )?;
-    tell_least(
-        rt,
-        "by 2",
-        work,
-        map,
-        CART,
-        10,
-        &[Ban::By {
-            cart: CART,
-            tick: Tick(2),
-        }],
-    )?;
-    tell_least(
-        rt,
-        "the other by 3",
-        work,
-        map,
-        CART,
-        10,
-        &[Ban::By {
-            cart: OTHER,
-            tick: Tick(3),
-        }],
-    )?;
-    tell_least(
-        rt,
-        "the other by 2",
-        work,
-        map,
-        CART,
-        10,
-        &[Ban::By {
-            cart: OTHER,
-            tick: Tick(2),
-        }],
-    )
-}
-
-fn tell_stands(rt: &HostRuntime, work: &mut Workspace, map: &ListMap) -> io::Result<()> {
-    for (place, tick) in [(0, 0), (2, 1), (2, 2), (2, 9), (5, 9)] {
-        let stands = can_stand(work, map, &trips(), &[], CART, Place(place), Tick(tick));
-        println!(rt; "can stand at {place} at tick {tick}: {stands}")?;
+        };
+        self.tell_least("no bans", CART, 10, &[])?;
+        self.tell_least("no bans, searched below 3", CART, 3, &[])?;
+        self.tell_least("a cart that is not there", Cart(2), 10, &[])?;
+        for (what, limit, ban) in [
+            ("no standing at the start at tick 0", 10, stand(0, 0)),
+            ("no standing at 1 at tick 1", 10, stand(1, 1)),
+            ("no standing at the target at tick 8", 20, stand(3, 8)),
+            (
+                "no standing at the target at tick 4,000",
+                4000,
+                stand(3, 4000),
+            ),
+            ("the same, searched further", 4002, stand(3, 4000)),
+            ("late 4,000", 4002, late),
+        ] {
+            self.tell_least(what, CART, limit, &[ban])?;
+        }
+        Ok(())
     }
-    let closed = [Ban::By {
-        cart: OTHER,
-        tick: Tick(2),
-    }];
-    let stands = can_stand(work, map, &trips(), &closed, CART, Place(2), Tick(2));
-    println!(rt; "can stand at 2 at tick 2, the other by 2: {stands}")
+
+    fn tell_closures(&mut self) -> io::Result<()> {
+        for (what, ban) in [
+            (
+                "no move from 1 to 2 arriving at tick 2",
+                Ban::move_at(CART, Place(1), Place(2), Tick(2)),
+            ),
+            ("by 3", by(CART, 3)),
+            ("by 2", by(CART, 2)),
+            ("the other by 3", by(OTHER, 3)),
+            ("the other by 2", by(OTHER, 2)),
+        ] {
+            self.tell_least(what, CART, 10, &[ban])?;
+        }
+        Ok(())
+    }
+
+    fn tell_least(&mut self, what: &str, cart: Cart, limit: u16, bans: &[Ban]) -> io::Result<()> {
+        let branch = Branch {
+            map: &self.map,
+            trips: &self.trips,
+            bans,
+        };
+        match branch.least_length(&mut self.work, cart, Length(Tick(limit))) {
+            Some(length) => println!(self.rt; "{what}: {length}"),
+            None => println!(self.rt; "{what}: none below {limit}"),
+        }
+    }
+
+    fn tell_stands(&mut self) -> io::Result<()> {
+        for (place, tick) in [(0, 0), (2, 1), (2, 2), (2, 9), (5, 9)] {
+            let stands = self.can_stand(Place(place), Tick(tick), &[]);
+            println!(self.rt; "can stand at {place} at tick {tick}: {stands}")?;
+        }
+        let stands = self.can_stand(Place(2), Tick(2), &[by(OTHER, 2)]);
+        println!(self.rt; "can stand at 2 at tick 2, the other by 2: {stands}")
+    }
+
+    fn can_stand(&mut self, place: Place, tick: Tick, bans: &[Ban]) -> bool {
+        let branch = Branch {
+            map: &self.map,
+            trips: &self.trips,
+            bans,
+        };
+        branch.can_stand(&mut self.work, CART, place, tick)
+    }
+
+    // The least lengths are 3 and 1.
+    fn tell_sums(&mut self) -> io::Result<()> {
+        let branch = Branch {
+            map: &self.map,
+            trips: &self.trips,
+            bans: &[],
+        };
+        for claim in [0, 4, 5] {
+            let below = branch.cheaper(&mut self.work, claim);
+            println!(self.rt; "a set that sums below {claim}: {below}")?;
+        }
+        Ok(())
+    }
 }
 
-// The least lengths are 3 and 1.
-fn tell_sums(rt: &HostRuntime, work: &mut Workspace, map: &ListMap) -> io::Result<()> {
-    for claim in [0, 4, 5] {
-        let below = cheaper(work, map, &trips(), &[], claim);
-        println!(rt; "a set that sums below {claim}: {below}")?;
+fn stand(place: u16, tick: u16) -> Ban {
+    Ban::stand_at(CART, Place(place), Tick(tick))
+}
+
+fn by(cart: Cart, tick: u16) -> Ban {
+    Ban::By {
+        cart,
+        tick: Tick(tick),
     }
-    Ok(())
 }

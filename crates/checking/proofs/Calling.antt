@@ -1,14 +1,19 @@
 -- The answers to the calls on a check, from what its code found.
-use Rattle.std.proofs.Common.{◌≡◌, ℕ, ◌<◌, ◌≤◌, Bool, true, false, cond, ◌||◌, leb, List, [], ◌∷◌, length, take, drop, Some, None, Ok, Err, sym, ap, ◌∙◌, ap₂, arith}
+use Rattle.std.proofs.Common.{◌≡◌, ℕ, ◌<◌, ◌≤◌, Bool, true, false, cond, ◌||◌, leb, List, [], ◌∷◌, length, slice_index_or, take, drop, Some, None, Ok, Err, Option, Bor, sym, refl, ap, ◌∙◌, ap₂, arith}
 use Rattle.floor.specs.Tests.{some}
 use Rattle.floor.specs.declared.Place.{Place}
-use Rattle.motion.specs.Listed.{in_conflict, numbers}
-use Rattle.motion.specs.Routes.{start_of, target_of}
+use Rattle.motion.specs.Listed.{in_conflict, numbers, route_check}
+use Rattle.motion.specs.Routes.{nowhere, start_of, target_of}
 use Rattle.motion.proofs.Listing.{route_test_tells}
+use Rattle.arrayvec.specs.ArrayVec.{array_vec_len}
+use Rattle.floor.specs.Floor.{Floor}
+use Rattle.motion.specs.declared.trip.Trip.{Trip}
 use Rattle.motion.specs.declared.ban.Ban.{Ban}
 use Rattle.motion.specs.declared.route.RouteRefusal.{RouteRefusal}
 use Rattle.search.specs.Least.{cheaper}
 use Rattle.splits.specs.declared.refusal.SplitRefusal.{SplitRefusal}
+use Rattle.floor.proofs.Chains.{err_same, ok_no_err, ok_same}
+use Rattle.std.specs.Option.{ok_or, option_copied}
 use Rattle.std.proofs.lemmas.List.{length-map}
 use Rattle.std.proofs.lemmas.Bool.{le-leb, lt-leb}
 use Rattle.std.proofs.lemmas.Bool.Decides.{nat_tests}
@@ -22,7 +27,7 @@ use Rattle.tally.specs.Tallies.{Tally, is_shown, with_closing, with_route, with_
 use Rattle.tally.specs.declared.refusal.Refusal.{Refusal}
 use Rattle.tally.specs.declared.refusal.Refusal.TheVariants.{NoCart, Shown, InConflict, NothingOpen, Full, Letter, CutShort, CheaperSet}
 use Rattle.checking.specs.Books.{tally_in}
-use Rattle.checking.specs.Checks.{Answers}
+use Rattle.checking.specs.Checks.{Answers, IsCurrent, RefusesBranches}
 use Rattle.checking.specs.OpenBranches.{current, rights}
 use Rattle.checking.specs.declared.book.Book.{Book}
 use Rattle.checking.proofs.Exits.{refused_so, taken_so, tested_so, close_nothing, close_cheaper, close_taken, split_nothing, split_full, split_unknown, split_short, split_refused, split_taken, show_no_cart, show_again, show_no_route, show_conflict, show_taken, route_answer}
@@ -36,56 +41,19 @@ module _ (o : Opening) (b : Book) (opens : Ok tt ≡ opened o) where
 
   -- the branches, as the flag tells whether one is open
   flagged : (flag : Bool) → flag ≡ b.branches.open →
-      (tally_in b).branches ≡ cond flag (current b.branches ∷ rights b.branches.bans b.branches.others b.branches.depth) []
-  flagged flag is = ap (λ x. cond x (current b.branches ∷ rights b.branches.bans b.branches.others b.branches.depth) []) (sym is)
+      (tally_in b).branches ≡ cond flag (current b.branches ∷ rights b.branches.bans b.branches.others.items (array_vec_len b.branches.others)) []
+  flagged flag is = ap (λ x. cond x (current b.branches ∷ rights b.branches.bans b.branches.others.items (array_vec_len b.branches.others)) []) (sym is)
 
-  module _ (shut : false ≡ b.branches.open) where
-    pub nothing_to_close : Answers o b b close (Err NothingOpen)
-    nothing_to_close = refuses close NothingOpen (close_nothing o (tally_in b) (flagged false shut))
-
-    pub nothing_to_split : (letter : ℕ) (bytes : List ℕ) → Answers o b b (split letter bytes) (Err NothingOpen)
-    nothing_to_split letter bytes = refuses (split letter bytes) NothingOpen (split_nothing o (tally_in b) letter bytes (flagged false shut))
-
-  module _ (going : true ≡ b.branches.open) (bans : List Ban) (are : bans ≡ (current b.branches).bans) where
-    -- a branch that was taken off or turned into two left the others
-    others : drop 1 (tally_in b).branches ≡ rights b.branches.bans b.branches.others b.branches.depth
-    others = ap (drop 1) (flagged true going)
-
-    pub cheaper_found : true ≡ cheaper o.floor o.trips bans o.claim → Answers o b b close (Err CheaperSet)
-    cheaper_found found =
-        refuses close CheaperSet (close_cheaper o (tally_in b) _ _ (flagged true going) (ap (λ bs. cheaper o.floor o.trips bs o.claim) (sym are) ∙ sym found))
-
-    pub branch_closed : (after : Book) → false ≡ cheaper o.floor o.trips bans o.claim → tally_in after ≡ with_closing (tally_in b) (drop 1 (tally_in b).branches) → Answers o b after close (Ok tt)
-    branch_closed after none is =
-        takes close after _ (close_taken o (tally_in b) _ _ (flagged true going) (ap (λ bs. cheaper o.floor o.trips bs o.claim) (sym are) ∙ sym none))
-        (is ∙ ap (with_closing (tally_in b)) others)
-
-    module _ (letter : ℕ) (bytes : List ℕ) where
-      pub branch_full : true ≡ (leb 64 (current b.branches).depth || leb 1000000 b.splits) → Answers o b b (split letter bytes) (Err Full)
-      branch_full full = refuses (split letter bytes) Full (split_full o (tally_in b) letter bytes _ _ (flagged true going) (sym full))
-
-      module _ (room : false ≡ (leb 64 (current b.branches).depth || leb 1000000 b.splits)) where
-        pub letter_unknown : false ≡ o.rules.knows letter → Answers o b b (split letter bytes) (Err Letter)
-        letter_unknown unknown = refuses (split letter bytes) Letter (split_unknown o (tally_in b) letter bytes _ _ (flagged true going) (sym room) (sym unknown))
-
-        module _ (known : true ≡ o.rules.knows letter) where
-          pub operands_short : None ≡ o.rules.width letter bytes → Answers o b b (split letter bytes) (Err CutShort)
-          operands_short short = refuses (split letter bytes) CutShort (split_short o (tally_in b) letter bytes _ _ (flagged true going) (sym room) (sym known) (sym short))
-
-          module _ (n : ℕ) (whole : Some n ≡ o.rules.width letter bytes) where
-            pub rule_refused : (e : SplitRefusal) → Err e ≡ o.rules.sides o.floor o.trips bans letter (take n bytes) → Answers o b b (split letter bytes) (Err (from_rule e))
-            rule_refused e given =
-                refuses (split letter bytes) (from_rule e) (split_refused o (tally_in b) letter bytes _ _ (flagged true going) (sym room) (sym known) n (sym whole) e
-                (ap (λ bs. o.rules.sides o.floor o.trips bs letter (take n bytes)) (sym are) ∙ sym given))
-
-            pub branch_split : (after : Book) (left right : Ban) → Ok (left, right) ≡ o.rules.sides o.floor o.trips bans letter (take n bytes) →
-                tally_in after ≡ with_split (tally_in b) (current b.branches) (drop 1 (tally_in b).branches) left right → Answers o b after (split letter bytes) (Ok tt)
-            branch_split after left right given is =
-                takes (split letter bytes) after _ (split_taken o (tally_in b) letter bytes _ _ (flagged true going) (sym room) (sym known) n (sym whole) left right
-                (ap (λ bs. o.rules.sides o.floor o.trips bs letter (take n bytes)) (sym are) ∙ sym given))
-                (is ∙ ap (λ rest. with_split (tally_in b) (current b.branches) rest left right) others)
+  pub nothing_open : false ≡ b.branches.open → RefusesBranches o b NothingOpen
+  nothing_open shut = record {
+    no_close = refuses close NothingOpen (close_nothing o (tally_in b) (flagged false shut));
+    no_split = λ letter bytes. refuses (split letter bytes) NothingOpen (split_nothing o (tally_in b) letter bytes (flagged false shut));
+  }
 
   module _ (a : ℕ) (ps : List ℕ) where
+    pub route_asked : (t : Trip) → t ≡ slice_index_or o.trips a nowhere → route_check o.floor t.start.0 t.target.0 ps ≡ route_answer o (tally_in b) a ps
+    route_asked t is = ap (λ (x : Trip). route_check o.floor x.start.0 x.target.0 ps) is
+
     pub no_such_cart : carts o ≤ a → Answers o b b (show a ps) (Err NoCart)
     no_such_cart gone = refuses (show a ps) NoCart (show_no_cart o (tally_in b) a ps (le-leb (carts o) a gone))
 
@@ -104,6 +72,50 @@ module _ (o : Opening) (b : Book) (opens : Ok tt ≡ opened o) where
           pub route_shown : (after : Book) → false ≡ some (λ s. in_conflict ps s.places) (tally_in b).shown → tally_in after ≡ with_route (tally_in b) a ps → Answers o b after (show a ps) (Ok tt)
           route_shown after none is =
               takes (show a ps) after _ (show_taken o (tally_in b) a ps (lt-leb (carts o) a there) (sym new) (sym route) (sym none)) is
+
+module _ (o : Opening) (b : Book) (f : Floor) (trips : List Trip) (bans : List Ban) (now : IsCurrent o b f trips bans) where
+  stand : (tally_in b).branches ≡ current b.branches ∷ rights b.branches.bans b.branches.others.items (array_vec_len b.branches.others)
+  stand = flagged o b now.opens true now.going
+
+  -- a branch that was taken off or turned into two left the others
+  others : drop 1 (tally_in b).branches ≡ rights b.branches.bans b.branches.others.items (array_vec_len b.branches.others)
+  others = ap (drop 1) stand
+
+  searched : cheaper o.floor o.trips (current b.branches).bans o.claim ≡ cheaper f trips bans o.claim
+  searched = let on = now.on_floor in let for = now.for_trips in let under = now.under_bans in cc
+
+  pub cheaper_found : true ≡ cheaper f trips bans o.claim → Answers o b b close (Err CheaperSet)
+  cheaper_found found = refuses o b now.opens close CheaperSet (close_cheaper o (tally_in b) _ _ stand (searched ∙ sym found))
+
+  pub branch_closed : (after : Book) → false ≡ cheaper f trips bans o.claim → tally_in after ≡ with_closing (tally_in b) (drop 1 (tally_in b).branches) → Answers o b after close (Ok tt)
+  branch_closed after none is = takes o b now.opens close after _ (close_taken o (tally_in b) _ _ stand (searched ∙ sym none)) (is ∙ ap (with_closing (tally_in b)) others)
+
+  module _ (letter : ℕ) (bytes : List ℕ) where
+    pub branch_full : true ≡ (leb 64 (current b.branches).depth || leb 1000000 b.splits) → Answers o b b (split letter bytes) (Err Full)
+    branch_full full = refuses o b now.opens (split letter bytes) Full (split_full o (tally_in b) letter bytes _ _ stand (sym full))
+
+    module _ (room : false ≡ (leb 64 (current b.branches).depth || leb 1000000 b.splits)) where
+      pub letter_unknown : false ≡ o.rules.knows letter → Answers o b b (split letter bytes) (Err Letter)
+      letter_unknown unknown = refuses o b now.opens (split letter bytes) Letter (split_unknown o (tally_in b) letter bytes _ _ stand (sym room) (sym unknown))
+
+      module _ (known : true ≡ o.rules.knows letter) where
+        pub operands_short : None ≡ o.rules.width letter bytes → Answers o b b (split letter bytes) (Err CutShort)
+        operands_short short = refuses o b now.opens (split letter bytes) CutShort (split_short o (tally_in b) letter bytes _ _ stand (sym room) (sym known) (sym short))
+
+        module _ (n : ℕ) (whole : Some n ≡ o.rules.width letter bytes) where
+          sided : o.rules.sides o.floor o.trips (current b.branches).bans letter (take n bytes) ≡ o.rules.sides f trips bans letter (take n bytes)
+          sided = let on = now.on_floor in let for = now.for_trips in let under = now.under_bans in cc
+
+          pub rule_refused : (e : SplitRefusal) → Err e ≡ o.rules.sides f trips bans letter (take n bytes) → Answers o b b (split letter bytes) (Err (from_rule e))
+          rule_refused e given =
+              refuses o b now.opens (split letter bytes) (from_rule e) (split_refused o (tally_in b) letter bytes _ _ stand (sym room) (sym known) n (sym whole) e (sided ∙ sym given))
+
+          pub branch_split : (after : Book) (left right : Ban) → Ok (left, right) ≡ o.rules.sides f trips bans letter (take n bytes) →
+              tally_in after ≡ with_split (tally_in b) (current b.branches) (drop 1 (tally_in b).branches) left right → Answers o b after (split letter bytes) (Ok tt)
+          branch_split after left right given is =
+              takes o b now.opens (split letter bytes) after _
+              (split_taken o (tally_in b) letter bytes _ _ stand (sym room) (sym known) n (sym whole) left right (sided ∙ sym given))
+              (is ∙ ap (λ rest. with_split (tally_in b) (current b.branches) rest left right) others)
 
 -- ---- the standing
 
@@ -124,3 +136,18 @@ pub few_places : (o : Opening) (b : Book) (a : ℕ) (ps : List Place) → Ok tt 
 few_places o b a ps is =
     let listed = (route_test_tells o.floor (start_of o.trips a) (target_of o.trips a) (numbers ps)).taken.0 (sym is) in
     omega (arith, listed.short, length-map ps (λ p. p.0))
+
+-- ---- where `ok_or` gives the refusal, or what there is
+
+module _ {A : Type 0} where
+  pub none_given : (r : Option A) (e f : Refusal) → ok_or r e ≡ Err f → (r ≡ None) × (f ≡ e)
+  none_given None e f is = (refl, sym (err_same is))
+  none_given (Some x) e f is = absurd (ok_no_err is)
+
+  pub some_given : (r : Option A) (e : Refusal) (x : A) → ok_or r e ≡ Ok x → r ≡ Some x
+  some_given None e x is = absurd (ok_no_err (sym is))
+  some_given (Some y) e x is = ap Some (ok_same is)
+
+pub shut : (flag : Bool) (bans : List Ban) (r : Option (Bor (List Ban))) → option_copied r ≡ cond flag (Some bans) None → r ≡ None → false ≡ flag
+shut false bans r is none = refl
+shut true bans r is none = let there : ◌≡◌ {A = Option (List Ban)} None (Some bans) = sym (ap option_copied none) ∙ is in cc

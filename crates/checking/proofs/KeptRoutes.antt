@@ -1,59 +1,59 @@
--- The routes shown as a loop over the routes kept goes through them, and the room left for another.
-use Rattle.std.proofs.Common.{◌≡◌, ℕ, ◌+◌, ◌<◌, ◌≤◌, Bool, true, false, ◌||◌, List, [], ◌∷◌, length, drop, Some, None, sym, ap, ◌∙◌, arith}
+-- What is found among the routes kept, and the room left for another.
+use Rattle.std.proofs.Common.{◌≡◌, ℕ, ◌<◌, Bool, true, false, cond, ◌||◌, eqb, List, [], ◌∷◌, ◌++◌, map, length, slice_index_or, unwrap_or, ◌-◌, Some, None, Option, All, option_map, sym, refl, ap, ◌∙◌, subst, ap₂, arith}
 use Rattle.floor.specs.Tests.{some}
-use Rattle.floor.proofs.Deciding.{decides_some}
-use Rattle.std.proofs.lemmas.List.FromFn.{get_or-map-range_with_len, length-map-range_with_len}
-use Rattle.std.proofs.lemmas.List.{at_drop_all, at_drop_more, length-drop, length-map, length-take}
-use Rattle.std.proofs.lemmas.Bool.{cond-false, cond-true, eq-eqb, ne_eqb, or_left}
-use Rattle.std.proofs.lemmas.Bool.Decides.{Decides-eqb, not_from_Decides}
+use Rattle.motion.specs.Listed.{steps}
+use Rattle.std.specs.Cmp.{nat_eq_equiv}
+use Rattle.std.specs.List.{IsDistinct, find, list_any}
+use Rattle.std.proofs.lemmas.Bool.{eqb-true}
+use Rattle.std.proofs.lemmas.List.Elements.{All-append}
+use Rattle.std.proofs.lemmas.List.Folds.{Any-from_list_any}
+use Rattle.std.proofs.lemmas.List.{length-map, length_push}
+use Rattle.std.proofs.lemmas.Map.Keys.{IsDistinct-push}
+use Rattle.std.proofs.lemmas.Map.Steps.{length-le_from_distinct_below}
 use Rattle.tally.specs.Tallies.{Shown, is_shown, places_of}
-use Rattle.checking.specs.Kept.{cart_at, length_at}
-use Rattle.checking.specs.ShownRoutes.{route_at, shown_in}
-use Rattle.checking.specs.declared.routes.Routes.{Routes}
-use Rattle.checking.proofs.Distinct.{NoneIs, fewer}
+use Rattle.checking.specs.Kept.{carts_in}
+use Rattle.checking.specs.ShownRoutes.{shown_as}
+use Rattle.checking.specs.declared.routes.Kept.{Kept}
 
--- F is a test of the routes shown from number i on, or a look-up in them
-module _ {Y : Type 0} (F : List Shown → Y) (r : Routes) (i : ℕ) where
-  at_route : i < r.count → F (drop i (shown_in r)) ≡ F (route_at r i ∷ drop (i + 1) (shown_in r))
-  at_route lt =
-      at_drop_more F (shown_in r) i (route_at r i) (rw length-map-range_with_len lt)
-      ∙ ap (λ s. F (s ∷ drop (i + 1) (shown_in r))) (get_or-map-range_with_len (route_at r) 0 r.count i i (route_at r i) lt (omega arith))
+any_shown : (p : Shown → Bool) (kept : List Kept) → list_any (λ k. p (shown_as k)) kept ≡ some p (map shown_as kept)
+any_shown p [] = refl
+any_shown p (k ∷ kept) = ap (λ b. p (shown_as k) || b) (any_shown p kept)
 
-  past_routes : r.count ≤ i → F (drop i (shown_in r)) ≡ F []
-  past_routes le = at_drop_all F (shown_in r) i (rw length-map-range_with_len le)
+-- what `any` finds
+pub some_shown : (p : Shown → Bool) (kept : List Kept) (found : Bool) → found ≡ list_any (λ k. p (shown_as k)) kept → found ≡ some p (map shown_as kept)
+some_shown p kept found is = is ∙ any_shown p kept
 
--- a loop that looks for a route that passes the test p, where none before number i does
-module _ (p : Shown → Bool) (r : Routes) (i : ℕ) (so : some p (drop i (shown_in r)) ≡ some p (shown_in r)) where
-  pub found_here : i < r.count → p (route_at r i) ≡ true → true ≡ some p (shown_in r)
-  found_here lt passes = sym (or_left _ _ passes) ∙ sym (at_route (some p) r i lt) ∙ so
+found_first : (here : Bool) (k : Kept) (later : Option Kept) (others : Option (List ℕ)) → option_map (λ x. (shown_as x).places) later ≡ others →
+    option_map (λ x. (shown_as x).places) (cond here (Some k) later) ≡ cond here (Some (shown_as k).places) others
+found_first true k later others is = refl
+found_first false k later others is = is
 
-  pub not_here : i < r.count → p (route_at r i) ≡ false → some p (drop (i + 1) (shown_in r)) ≡ some p (shown_in r)
-  not_here lt fails = ap (λ b. b || some p (drop (i + 1) (shown_in r))) (sym fails) ∙ sym (at_route (some p) r i lt) ∙ so
+places_found : (a : ℕ) (kept : List Kept) → option_map (λ k. (shown_as k).places) (find (λ k. eqb k.cart.0 a) kept) ≡ places_of (map shown_as kept) a
+places_found a [] = refl
+places_found a (k ∷ kept) = found_first (eqb k.cart.0 a) k _ _ (places_found a kept)
 
-  pub found_nowhere : r.count ≤ i → false ≡ some p (shown_in r)
-  found_nowhere le = sym (past_routes (some p) r i le) ∙ so
+-- what `find` gives
+module _ (a : ℕ) (kept : List Kept) where
+  pub steps_found : (k : Kept) → Some k ≡ find (λ x. eqb x.cart.0 a) kept → length k.places.items - 1 ≡ steps (unwrap_or (places_of (map shown_as kept) a) [])
+  steps_found k is =
+      ap (λ n. n - 1) (sym (length-map k.places.items (λ p. p.0))) ∙ ap (λ o. steps (unwrap_or o [])) (ap (option_map (λ x. (shown_as x).places)) is ∙ places_found a kept)
 
--- a loop that looks for the places of the cart a, which has no route before number i
-module _ (a : ℕ) (r : Routes) (i : ℕ) (so : places_of (drop i (shown_in r)) a ≡ places_of (shown_in r) a) where
-  pub places_here : i < r.count → cart_at r.kept i ≡ a → Some (route_at r i).places ≡ places_of (shown_in r) a
-  places_here lt is = sym (cond-true _ _ _ (eq-eqb _ _ is)) ∙ sym (at_route (λ shown. places_of shown a) r i lt) ∙ so
+  pub steps_none : None ≡ find (λ x. eqb x.cart.0 a) kept → 0 ≡ steps (unwrap_or (places_of (map shown_as kept) a) [])
+  steps_none is = ap (λ o. steps (unwrap_or o [])) (ap (option_map (λ x. (shown_as x).places)) is ∙ places_found a kept)
 
-  pub places_later : i < r.count → (cart_at r.kept i ≡ a → ⊥) → places_of (drop (i + 1) (shown_in r)) a ≡ places_of (shown_in r) a
-  places_later lt differs = sym (cond-false _ _ _ (ne_eqb _ _ differs)) ∙ sym (at_route (λ shown. places_of shown a) r i lt) ∙ so
+module _ (kept : List Kept) (a : ℕ) (unshown : is_shown (map shown_as kept) a ≡ false) (apart : IsDistinct eqb (carts_in kept)) (known : All (λ b. b < 16) (carts_in kept)) (low : a < 16) where
+  absent : (ks : List Kept) → list_any (eqb a) (carts_in ks) ≡ is_shown (map shown_as ks) a
+  absent [] = refl
+  absent (k ∷ ks) = ap₂ ◌||◌ (nat_eq_equiv.symm a k.cart.0) (absent ks)
 
-  pub places_nowhere : r.count ≤ i → None ≡ places_of (shown_in r) a
-  places_nowhere le = sym (past_routes (λ shown. places_of shown a) r i le) ∙ so
+  pub apart_push : IsDistinct eqb (carts_in kept ++ (a ∷ []))
+  apart_push = IsDistinct-push nat_eq_equiv (carts_in kept) a apart (absent kept ∙ unshown)
 
--- a route is as long as is kept of it
-pub route_long : (r : Routes) (i : ℕ) → length r.places ≡ 4096 → i < r.count → length (route_at r i).places ≡ length_at r.kept i
-route_long r i all lt = let short = r.short i lt in simp (length-map, length-take, length-drop) (omega arith)
+  pub known_push : All (λ b. b < 16) (carts_in kept ++ (a ∷ []))
+  known_push = All-append (λ b. b < 16) (carts_in kept) (a ∷ []) known (λ k d lt. let first : 0 ≡ k = omega arith in subst (λ i. slice_index_or (a ∷ []) i d < 16) first low)
 
--- the cart a has no route
-module _ (r : Routes) (a : ℕ) (unshown : is_shown (shown_in r) a ≡ false) where
-  pub none_kept : NoneIs (cart_at r.kept) r.count a
-  none_kept i lt e =
-      not_from_Decides _ (decides_some _ (λ s. s.cart ≡ a) (λ s. Decides-eqb s.cart a) (shown_in r)) unshown
-      (i, rw length-map-range_with_len lt, λ d. ap (λ s. s.cart) (get_or-map-range_with_len (route_at r) 0 r.count i i d lt (omega arith)) ∙ e)
-
-  pub room_left : a < 16 → r.count < 16
-  room_left lt = fewer (cart_at r.kept) r.count 16 a r.apart r.known lt none_kept
+  pub room_left : length kept < 16
+  room_left =
+      let few = length-le_from_distinct_below _ 16 apart_push
+      (λ q there. let found = Any-from_list_any (eqb q) _ there in subst (λ x. x < 16) (sym (eqb-true q _ found.4)) (subst (λ x. x < 16) found.3 (known_push found.0 found.1 found.2))) in
+      omega (arith, few, length_push (carts_in kept) a, length-map kept (λ k. k.cart.0))

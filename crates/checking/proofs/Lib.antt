@@ -1,9 +1,8 @@
 pub mod Rights
 pub mod OpeningTests
-pub mod Distinct
 pub mod KeptRoutes
-pub mod AddedRoutes
 pub mod Exits
 pub mod Calling
 pub mod Promising
 pub mod Running
+pub mod Totals

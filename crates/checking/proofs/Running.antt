@@ -1,8 +1,5 @@
 -- How a check, and the steps told of it, go on call by call.
 use Rattle.std.proofs.Common.{◌≡◌, ℕ, ◌+◌, ◌<◌, List, [], ◌∷◌, ◌++◌, map, length, get_or, take, Result, sym, ap, ◌∙◌, subst, ap₂, subst₂}
-use Rattle.floor.specs.Floor.{Floor}
-use Rattle.motion.specs.declared.trip.Trip.{Trip}
-use Rattle.splits.specs.Rules.{Rules}
 use Rattle.std.proofs.lemmas.List.{get_or-map, length-map, take_more}
 use Rattle.tally.specs.CallAnswers.{after, after_all, answer}
 use Rattle.tally.specs.Calls.{Call as Meant, close}
@@ -14,7 +11,7 @@ use Rattle.tally.specs.declared.standing.Standing.{Standing}
 use Rattle.tally.proofs.Reaching.{after_more}
 use Rattle.checking.specs.Books.{tally_in}
 use Rattle.checking.specs.CallsMade.{meant}
-use Rattle.checking.specs.Checks.{Answers, opening}
+use Rattle.checking.specs.Checks.{Answers}
 use Rattle.checking.specs.Runs.{step, steps_of}
 use Rattle.checking.specs.declared.book.Book.{Book}
 use Rattle.checking.specs.declared.call.Call.{Call}
@@ -52,6 +49,3 @@ runs_as {o} {calls} {others} {opened-so} {book} ec es runs = subst₂ (λ cs ss.
 pub meant_more : (calls : List Call) (i : ℕ) (d : Call) → i < length calls → take (i + 1) (map meant calls) ≡ take i (map meant calls) ++ (meant (get_or calls i d) ∷ [])
 meant_more calls i d h =
     take_more (map meant calls) i close (subst (λ n. i < n) (sym (length-map calls meant)) h) ∙ ap (λ c. take i (map meant calls) ++ (c ∷ [])) (get_or-map meant calls i d close h)
-
-pub opening_same : {f g : Floor} {r s : Rules} {ts us : List Trip} {m n c d : ℕ} → f ≡ g → r ≡ s → ts ≡ us → m ≡ n → c ≡ d → opening f r ts m c ≡ opening g s us n d
-opening_same ef er et em ec = cc

@@ -9,10 +9,10 @@ pub mod methods;
 // All that calls on a check change.
 #[derive(Drop)]
 pub struct Book {
-    branches: Branches,
-    routes: Routes,
-    splits: usize,
-    closings: usize,
+    pub branches: Branches,
+    pub routes: Routes,
+    pub splits: usize,
+    pub closings: usize,
     ghost counts: { length (branches_of branches) + closings ≡ splits + 1 },
     ghost few: { splits ≤ 1000000 },
 }

@@ -1,6 +1,6 @@
 use floor::{Cart, Place};
 
-// A call on a check.
+// A call on a check: a value, since a list of them is run and the theorem speaks of such lists.
 #[derive(Clone, Copy)]
 pub enum Call<'a> {
     // Show the places as the route of the cart.

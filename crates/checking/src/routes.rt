@@ -1,25 +1,24 @@
-ghost use Rattle.std.specs.Prelude.{◌≡◌, ℕ, ◌<◌, ◌≤◌, ◌≢◌};
-ghost use Rattle.checking.specs.Kept.{cart_at, length_at};
+ghost use Rattle.std.specs.Prelude.{◌<◌, All, nat_eq};
+ghost use Rattle.std.proofs.Props.{props};
+ghost use Rattle.std.specs.List.{IsDistinct};
+ghost use Rattle.checking.specs.Kept.{carts_in};
 
+use arrayvec::ArrayVec;
 use floor::{Cart, Place};
 
 pub mod methods;
 
-// How the route of a cart is kept: its places stand one after the other in the room of 256 with the route's number.
-#[derive(Clone, Copy)]
+// The route of a cart.
+#[derive(Default, Drop)]
 pub struct Kept {
-    pub cart: Cart,
-    pub length: u16,
+    cart: Cart,
+    places: ArrayVec<Place, 256>,
 }
 
 // The routes shown, in their order: at most 16, each of another cart.
 #[derive(Drop)]
 pub struct Routes {
-    kept: [Kept; 16],
-    places: [Place; 4096],
-    count: usize,
-    ghost few: { count ≤ 16 },
-    ghost known: { (i : ℕ) → i < count → cart_at kept i < 16 },
-    ghost apart: { (i j : ℕ) → i < j → j < count → cart_at kept i ≢ cart_at kept j },
-    ghost short: { (i : ℕ) → i < count → length_at kept i ≤ 256 },
+    kept: ArrayVec<Kept, 16>,
+    ghost known: { All (λ a. a < 16) (carts_in kept.items) },
+    ghost apart: { IsDistinct nat_eq (carts_in kept.items) } by { Prim.hlevel props },
 }

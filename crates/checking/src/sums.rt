@@ -1,4 +1,4 @@
-// Counts over the carts of a check.
+// Counts over the carts of a check, by their numbers, which no list has: at most 16, so that they are `Cart`s.
 ghost use Rattle.std.specs.Prelude.{◌≡◌, ◌≤◌, [], if◌then◌else◌};
 ghost use Rattle.checking.specs.ShownRoutes.{shown_in};
 ghost use Rattle.motion.specs.Listed.{steps};
@@ -9,23 +9,12 @@ ghost use Rattle.tally.specs.Tallies.{is_shown, places_of};
 use crate::routes::Routes;
 use floor::Cart;
 
-// One for a cart without a route, and nothing for one with a route.
-fn lacking(routes: &Routes, cart: Cart) -> usize
-    ensures { result ≡ (if is_shown (shown_in routes.now) cart.0 then 0 else 1) }
-{
-    if routes.has(cart) { 0 } else { 1 }
-}
-
 // How many carts have no route.
 pub fn unshown(routes: &Routes, carts: usize) -> usize
     requires { carts ≤ 16 }
     ensures { result ≡ total carts (λ a. (if is_shown (shown_in routes.now) a then 0 else 1)) }
 {
-    let mut missing = 0;
-    for a in 0..carts {
-        missing += lacking(routes, Cart(a as u8));
-    }
-    missing
+    (0..carts).filter(|&a| !routes.has(Cart(a as u8))).count()
 }
 
 // The sum of the routes shown.
@@ -33,9 +22,5 @@ pub fn shown_sum(routes: &Routes, carts: usize) -> usize
     requires { carts ≤ 16 }
     ensures { result ≡ total carts (λ a. steps (unwrap_or (places_of (shown_in routes.now) a) [])) }
 {
-    let mut sum = 0;
-    for a in 0..carts {
-        sum += routes.steps(Cart(a as u8));
-    }
-    sum
+    (0..carts).map(|a| routes.steps(Cart(a as u8))).sum()
 }

@@ -5,7 +5,7 @@ mod grids;
 mod lists;
 
 use floor::FloorMap;
-use mapfile::{ReadError, read_map};
+use mapfile::read_map;
 use std::io;
 
 fn main(rt: HostRuntime) -> anyhow::Result<()> {
@@ -17,17 +17,18 @@ fn run(rt: &HostRuntime) -> anyhow::Result<()> {
     grids::run(rt)
 }
 
+// A line for each file.
+pub fn tell_each(rt: &HostRuntime, files: &[(&str, &[u8])]) -> io::Result<()> {
+    for &(what, bytes) in files {
+        tell(rt, what, bytes)?;
+    }
+    Ok(())
+}
+
 // One line for a file: how many places it has, or why it is refused.
 pub fn tell(rt: &HostRuntime, what: &str, bytes: &[u8]) -> io::Result<()> {
     match read_map(rt.alloc(), bytes) {
         Ok(map) => println!(rt; "{what}: {} places", map.places()),
-        Err(ReadError::Fault(fault)) => {
-            println!(rt;
-                "{what}: refused map {} {}",
-                fault.refusal.number(),
-                fault.offset
-            )
-        }
-        Err(ReadError::NoMemory) => println!(rt; "{what}: out of memory"),
+        Err(why) => println!(rt; "{what}: {why}"),
     }
 }

@@ -1,13 +1,14 @@
 ghost use Rattle.std.specs.Prelude.{◌≡◌};
-ghost use Rattle.motion.specs.declared.ban.Ban.TheVariants.{Stand};
 ghost use Rattle.outside.specs.Single.{doubling, single_rules};
-ghost use Rattle.splits.specs.Operands.{byte};
 ghost use Rattle.outside.specs.Singles.{single_lawful};
 
 use floor::{Cart, FloorMap, Place, Tick};
-use motion::{Ban, Trip};
-use search::Workspace;
-use splits::{SplitRefusal, SplitRule};
+use motion::Ban;
+use search::{Branch, Workspace};
+use splits::{
+    SplitRefusal, SplitRule, byte_in, cart_in, check_cart, check_place, check_tick, ensure,
+    of_width,
+};
 
 // Letter `S` cart(1) place(1) place(1) tick(1): a cart is not at two places at one tick.
 #[derive(Clone, Copy)]
@@ -22,31 +23,15 @@ pub struct Doubling {
     pub tick: Tick,
 }
 
-fn byte(operands: &[u8], i: usize) -> u8
-    ensures { result ≡ byte operands.now i }
-{
-    if i < operands.len() { operands[i] } else { 0 }
-}
-
+// No `From`: bytes mean this only behind the letter.
 fn read(operands: &[u8]) -> Doubling
     ensures { result ≡ doubling operands.now }
 {
     Doubling {
-        cart: Cart(byte(operands, 0)),
-        p: Place(byte(operands, 1) as u16),
-        q: Place(byte(operands, 2) as u16),
-        tick: Tick(byte(operands, 3) as u16),
-    }
-}
-
-fn stand(cart: Cart, place: Place, tick: Tick) -> Ban
-    ensures { result ≡ Stand cart place tick tick }
-{
-    Ban::Stand {
-        cart,
-        place,
-        first: tick,
-        last: tick,
+        cart: cart_in(operands, 0),
+        p: Place(u16::from(byte_in(operands, 1))),
+        q: Place(u16::from(byte_in(operands, 2))),
+        tick: Tick(u16::from(byte_in(operands, 3))),
     }
 }
 
@@ -60,31 +45,25 @@ impl SplitRule for Single {
     }
 
     fn width(&self, letter: u8, bytes: &[u8]) -> Option<usize> {
-        if 4 <= bytes.len() { Some(4) } else { None }
+        of_width(4, bytes)
     }
 
     fn sides<M: FloorMap>(
         &self,
         work: &mut Workspace,
-        map: &M,
-        trips: &[Trip],
-        bans: &[Ban],
+        branch: &Branch<M>,
         letter: u8,
         operands: &[u8],
     ) -> Result<(Ban, Ban), SplitRefusal> {
         let d = read(operands);
-        if d.cart.0 as usize >= trips.len() {
-            return Err(SplitRefusal::NoCart);
-        }
-        if d.p.0 as usize >= map.places() || d.q.0 as usize >= map.places() {
-            return Err(SplitRefusal::NoPlace);
-        }
-        if d.tick.0 > 4000 {
-            return Err(SplitRefusal::BadTick);
-        }
-        if d.p.0 == d.q.0 {
-            return Err(SplitRefusal::Unlawful);
-        }
-        Ok((stand(d.cart, d.p, d.tick), stand(d.cart, d.q, d.tick)))
+        check_cart(branch.trips, d.cart)?;
+        check_place(branch.map, d.p)?;
+        check_place(branch.map, d.q)?;
+        check_tick(d.tick)?;
+        ensure(d.p != d.q, SplitRefusal::Unlawful)?;
+        Ok((
+            Ban::stand_at(d.cart, d.p, d.tick),
+            Ban::stand_at(d.cart, d.q, d.tick),
+        ))
     }
 }

@@ -1,5 +1,6 @@
 -- An option of which each case tells a fact. Speaks of no floor.
-use Rattle.std.proofs.Common.{◌≡◌, ◌↔◌, Some, None, Option, refl, ap, subst, MatchOption}
+use Rattle.std.proofs.Common.{◌≡◌, ◌↔◌, Some, None, Option, refl, ap, MatchOption}
+use Rattle.std.proofs.lemmas.Option.{MatchOption-at_none, MatchOption-at_some}
 
 pub cases_map : {X P P' : Type 0} {Q Q' : X → Type 0} (o : Option X) → (P → P') → ((x : X) → Q x → Q' x) → MatchOption o P Q → MatchOption o P' Q'
 cases_map None f g h = f h
@@ -16,7 +17,4 @@ module _ {X : Type 0} (P : Type 0) (Q : X → Type 0) (apart : (x : X) → P →
   to_none (Some y) h p = absurd (apart y p h)
 
   pub exactly : (o : Option X) → MatchOption o P Q → ((x : X) → (o ≡ Some x) ↔ Q x) × ((o ≡ None) ↔ P)
-  exactly o h = (λ x. (λ e. at (Some x) e, to_some o h x), (λ e. at None e, to_none o h))
-    where
-      at : (o' : Option X) → o ≡ o' → MatchOption o' P Q
-      at o' e = subst (λ x. MatchOption x P Q) e h
+  exactly o h = (λ x. (λ e. MatchOption-at_some P Q x e h, to_some o h x), (λ e. MatchOption-at_none P Q e h, to_none o h))

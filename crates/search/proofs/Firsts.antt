@@ -1,12 +1,11 @@
 -- The first number that passes a test. Speaks of no floor.
-use Rattle.std.proofs.Common.{◌≡◌, ℕ, zero, suc, ◌+◌, ◌<◌, Bool, true, false, cond, Some, None, Option, sym, refl, ap, ◌∙◌, ap₂, ⊎_elim, add-one, arith, MatchOption}
+use Rattle.std.proofs.Common.{◌≡◌, ℕ, zero, suc, ◌<◌, Bool, true, false, cond, Some, None, Option, sym, refl, ap, ap₂, arith, MatchOption}
 use native.Mathlib.Decide.{le_ind}
-use Rattle.std.proofs.lemmas.Bool.{cases_lt}
 use Rattle.search.specs.Sums.{or_else, first_below}
 
 -- what holds below n and at n
 pub below_suc : (P : ℕ → Type 0) (n : ℕ) → ((k : ℕ) → k < n → P k) → P n → (k : ℕ) → k < suc n → P k
-below_suc P n below here k h = ⊎_elim (below k) (λ ge. let e : k ≡ n = omega arith in rw e here) (cases_lt k n)
+below_suc P n below here k h = grind arith
 
 module _ (P : ℕ → Bool) where
   abbrev pub NonePasses : ℕ → Type 0
@@ -24,10 +23,6 @@ module _ (P : ℕ → Bool) where
   pub first_is : (n : ℕ) → MatchOption (first_below P n) (NonePasses n) (IsFirst n)
   first_is zero = λ k h. absurd (omega arith)
   first_is (suc n) = first_more n (first_below P n) (P n) refl (first_is n)
-
-  -- the steps of a loop that looks for the first
-  pub first_missed : (n : ℕ) → first_below P n ≡ None → P n ≡ false → first_below P (n + 1) ≡ None
-  first_missed n e t = ap (first_below P) (add-one n) ∙ ap₂ (λ o b. or_else o (cond b (Some n) None)) e t
 
   pub first_found : (n limit : ℕ) → n < limit → first_below P n ≡ None → P n ≡ true → Some n ≡ first_below P limit
   first_found n limit h e t =

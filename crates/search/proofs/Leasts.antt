@@ -1,6 +1,6 @@
 -- The first possible length is the least length.
 use Rattle.std.proofs.Common.{◌≡◌, ℕ, ◌<◌, ◌≤◌, false, ltb, ◌⊎◌, ◌↔◌, List, length, Some, None, Option, sym, subst, inl, inr, ⊎_elim, arith, MatchOption}
-use Rattle.std.proofs.lemmas.Bool.{cases_lt, ltb-true, ltb-false, lt-ltb, le-ltb, cond-true, cond-false, cond_both}
+use Rattle.std.proofs.lemmas.Bool.{cases_lt, ltb-true, ltb-false, cond_both}
 use Rattle.std.proofs.lemmas.Bool.Decides.{not_from_Decides}
 use Rattle.floor.specs.Floor.{Floor, Lawful}
 use Rattle.motion.specs.Stands.{Keeping, LeastLength}
@@ -15,13 +15,6 @@ use Rattle.search.proofs.Possible.{possible_keeping}
 module _ (f : Floor) (trips : List Trip) (bans : List Ban) (a : ℕ) where
   pub least_once : (m n : ℕ) → LeastLength f trips bans a m → LeastLength f trips bans a n → m ≡ n
   least_once m n l k = let low = l.least n k.some in let high = k.least m l.some in omega arith
-
-  -- what is computed for a cart that is there, and for one that is not
-  pub there_least : (limit : ℕ) → a < length trips → least_below f trips bans a limit ≡ least_length f trips bans a limit
-  there_least limit there = sym (cond-true (ltb a (length trips)) _ None (lt-ltb a (length trips) there))
-
-  pub gone_none : (limit : ℕ) → length trips ≤ a → None ≡ least_length f trips bans a limit
-  gone_none limit gone = sym (cond-false (ltb a (length trips)) _ None (le-ltb a (length trips) gone))
 
 module _ (f : Floor) (law : Lawful f) (trips : List Trip) (bans : List Ban) (a limit : ℕ) where
   abbrev Least : ℕ → Type 0

@@ -1,16 +1,13 @@
 pub mod Each
+pub mod Entering
 pub mod Exactly
 pub mod Firsts
 pub mod Sums
 pub mod Marks
-pub mod Refills
-pub mod Scans
 pub mod Tells
 pub mod Walks
 pub mod Standing
 pub mod Pushed
-pub mod RowLoops
 pub mod Possible
 pub mod Leasts
-pub mod LeastLoops
 pub mod Sets

@@ -1,7 +1,6 @@
 -- A cart can stand at a place exactly where the cart is there and a walk ends at that place of the floor.
-use Rattle.std.proofs.Common.{◌≡◌, ℕ, zero, suc, ◌+◌, ◌<◌, ◌≤◌, Bool, true, false, ◌&&◌, ◌||◌, List, length, Decides, sym, ap, ◌∙◌, add-one, arith}
-use mathlib.Core.Bool.{or-false}
-use Rattle.std.proofs.lemmas.Bool.{lt-ltb, le-ltb, and_left}
+use Rattle.std.proofs.Common.{◌≡◌, ℕ, zero, suc, ◌+◌, ◌<◌, ◌≤◌, Bool, true, false, ◌&&◌, List, length, Decides, sym, ap, ◌∙◌, add-one, arith}
+use Rattle.std.proofs.lemmas.Bool.{lt-ltb}
 use Rattle.std.proofs.lemmas.Bool.Decides.{Decides-and, Decides-like, Decides-ltb}
 use Rattle.floor.specs.Floor.{Floor, Lawful}
 use Rattle.floor.proofs.Deciding.{decides_some_below, false_from_decides}
@@ -29,21 +28,16 @@ module _ (f : Floor) (trips : List Trip) (bans : List Ban) (a : ℕ) where
   pub decides_stands_before : Lawful f → (n p : ℕ) → Decides (stands_before f trips bans a n p) (StandsBefore f trips bans a n p)
   decides_stands_before law n p = decides_some_below _ (λ u. CanStand f trips bans a u p) (λ u. decides_can_stand law u p) n
 
-  -- what is computed for a cart that is there, and for one that is not
-  pub there_by_row : a < length trips → (u p : ℕ) → marked (row_at f trips bans a u) p ≡ can_stand f trips bans a u p
-  there_by_row there u p = sym (ap (λ t. t && marked (row_at f trips bans a u) p) (lt-ltb a (length trips) there))
-
-  -- the same of a row that is equal to it
-  pub there_by_same_row : a < length trips → (u p : ℕ) (row : List Bool) → row ≡ row_at f trips bans a u → marked row p ≡ can_stand f trips bans a u p
-  there_by_same_row there u p row is = ap (λ r. marked r p) is ∙ there_by_row there u p
-
-  pub gone_never : length trips ≤ a → (u p : ℕ) → false ≡ can_stand f trips bans a u p
-  gone_never gone u p = sym (and_left _ _ (le-ltb a (length trips) gone))
-
   pub gone_never_before : Lawful f → length trips ≤ a → (n p : ℕ) → false ≡ stands_before f trips bans a n p
   gone_never_before law gone n p = sym (false_from_decides _ (decides_stands_before law n p) (λ h. let there = h.2.0 in omega arith))
 
+  -- what is computed for a cart that is there: of its row, and of a row that is equal to it
+  pub there_by_row : a < length trips → (u p : ℕ) → marked (row_at f trips bans a u) p ≡ can_stand f trips bans a u p
+  there_by_row there u p = sym (ap (λ t. t && marked (row_at f trips bans a u) p) (lt-ltb a (length trips) there))
+
+  pub there_by_same_row : a < length trips → (u p : ℕ) (row : List Bool) → row ≡ row_at f trips bans a u → marked row p ≡ can_stand f trips bans a u p
+  there_by_same_row there u p row is = ap (λ r. marked r p) is ∙ there_by_row there u p
+
   -- tick n decides, where the cart cannot stand there before
   pub before_next : (n p : ℕ) → stands_before f trips bans a n p ≡ false → can_stand f trips bans a n p ≡ stands_before f trips bans a (n + 1) p
-  before_next n p none =
-      sym (ap (λ m. stands_before f trips bans a m p) (add-one n) ∙ ap (λ x. can_stand f trips bans a n p || x) none ∙ or-false (can_stand f trips bans a n p))
+  before_next n p none = grind (arith, add-one n)

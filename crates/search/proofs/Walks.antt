@@ -1,8 +1,9 @@
 -- A place is marked in the row of tick u exactly where a walk of u steps ends there.
 use Rattle.std.proofs.Common.{◌≡◌, ℕ, zero, suc, ◌<◌, ◌≤◌, Bool, true, cond, leb, ◌⊎◌, List, get_or, Decides, sym, refl, ◌∙◌, subst, inl, inr, ⊎_elim, arith}
 use Rattle.std.proofs.lemmas.List.{get_or_default}
-use Rattle.std.proofs.lemmas.Bool.{cond-true, cond-false, le-leb, lt-leb, cases_lt, cases_order}
+use Rattle.std.proofs.lemmas.Bool.{cond-true, cond-false, le-leb, lt-leb}
 use Rattle.std.proofs.lemmas.Bool.Decides.{Decides-and, Decides-or, Decides-eqb, Decides-like}
+use Rattle.std.proofs.lemmas.Grind.{common_steps}
 use Rattle.floor.specs.Floor.{Floor, Joined, Lawful}
 use Rattle.floor.specs.Tests.{some}
 use Rattle.floor.proofs.Deciding.{decides_itself, decides_some}
@@ -36,23 +37,12 @@ then_after r n q t h = cond-false (leb t n) (r t) q (lt-leb t n h)
 -- what holds of each tick, or of each tick and the next
 pub then_at : (P : ℕ → ℕ → Type 0) (r : ℕ → ℕ) (n q : ℕ) → ((t : ℕ) → t ≤ n → P t (r t)) → ((t : ℕ) → n < t → P t q)
     → (t : ℕ) → P t (then r n q t)
-then_at P r n q early late t =
-    ⊎_elim (λ lt. rw (then_after r n q t lt) (late t lt)) (λ le. rw (then_before r n q t le) (early t le)) (cases_lt n t)
+then_at P r n q early late t = grind (arith, common_steps, early t, late t, then_before r n q t, then_after r n q t)
 
 pub then_steps : (P : ℕ → ℕ → ℕ → Type 0) (r : ℕ → ℕ) (n q : ℕ) → ((t : ℕ) → t < n → P t (r t) (r (suc t))) → P n (r n) q
     → ((t : ℕ) → n < t → P t q q) → (t : ℕ) → P t (then r n q t) (then r n q (suc t))
 then_steps P r n q early turn late t =
-    ⊎_elim at_n (⊎_elim before after) (cases_order t n)
-  where
-    at_n : t ≡ n → P t (then r n q t) (then r n q (suc t))
-    at_n e =
-        rw (then_before r n q t (omega arith), then_after r n q (suc t) (omega arith)) (subst (λ u. P u (r u) q) (sym e) turn)
-
-    before : t < n → P t (then r n q t) (then r n q (suc t))
-    before lt = rw (then_before r n q t (omega arith), then_before r n q (suc t) lt) (early t lt)
-
-    after : n < t → P t (then r n q t) (then r n q (suc t))
-    after gt = rw (then_after r n q t gt, then_after r n q (suc t) (omega arith)) (late t gt)
+    grind (arith, common_steps, early t, late t, then_before r n q t, then_after r n q t, then_before r n q (suc t), then_after r n q (suc t))
 
 module _ (f : Floor) (trips : List Trip) (bans : List Ban) (a : ℕ) where
   abbrev pub CanStep : ℕ → ℕ → ℕ → Type 0

@@ -1,5 +1,4 @@
 pub mod Lets
-pub mod Acts
 pub mod BanLists
 pub mod Rows
 pub mod Pushes

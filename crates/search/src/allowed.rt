@@ -1,129 +1,126 @@
 // What bans let a cart do.
 ghost use Rattle.std.specs.Prelude.{◌≡◌};
-ghost use Rattle.floor.specs.Tests.{every};
-ghost use Rattle.search.specs.Acts.{lets};
 ghost use Rattle.search.specs.BanLists.{listed};
+ghost use Rattle.search.specs.Least.{can_end};
 ghost use Rattle.search.specs.Lets.{within, lets_be, lets_go, lets_rest, lets_end};
+ghost use Rattle.search.specs.Pushes.{can_enter};
+ghost use Rattle.search.specs.Rows.{can_be, can_go};
 
-use crate::bans::Bans;
-use crate::trips::target_of;
+use crate::cart_search::CartSearch;
+use crate::trips::trip_of;
 use floor::{Place, Tick};
-use motion::{Ban, Length, Trip};
-
-// What a cart would do.
-#[derive(Clone, Copy)]
-pub enum Act {
-    // Be at the place at the tick.
-    Be { place: Place, tick: Tick },
-    // Go from one place to another, or wait where they are one, arriving at the tick.
-    Go { from: Place, to: Place, tick: Tick },
-    // Be and wait at the place at every tick from this on.
-    Rest { place: Place, tick: Tick },
-    // Have the length.
-    End { length: Length },
-}
+use motion::{Ban, Length};
 
 fn covers(first: Tick, last: Tick, t: Tick) -> bool
     ensures { result ≡ within first.0 last.0 t.0 }
 {
-    first.0 <= t.0 && t.0 <= last.0
+    (first..=last).contains(&t)
 }
 
-fn lets_be(trips: &[Trip], a: usize, t: Tick, p: Place, ban: Ban) -> bool
-    ensures { result ≡ lets_be trips.now a t.0 p.0 ban }
-{
-    match ban {
-        Ban::Stand {
-            cart,
-            place,
-            first,
-            last,
-        } => !(cart.0 as usize == a && covers(first, last, t) && place.0 == p.0),
-        Ban::By { cart, tick } => !(cart.0 as usize != a
-            && tick.0 <= t.0
-            && target_of(trips, cart.0 as usize).0 == p.0),
-        Ban::Move { .. } | Ban::Late { .. } => true,
-    }
-}
-
-fn lets_go(a: usize, t: Tick, p: Place, q: Place, ban: Ban) -> bool
-    ensures { result ≡ lets_go a t.0 p.0 q.0 ban }
-{
-    match ban {
-        Ban::Move {
-            cart,
-            from,
-            to,
-            first,
-            last,
-        } => { !(cart.0 as usize == a && covers(first, last, t) && from.0 == p.0 && to.0 == q.0) }
-        Ban::Stand { .. } | Ban::Late { .. } | Ban::By { .. } => true,
-    }
-}
-
-fn lets_rest(trips: &[Trip], a: usize, n: Tick, p: Place, ban: Ban) -> bool
-    ensures { result ≡ lets_rest trips.now a n.0 p.0 ban }
-{
-    match ban {
-        Ban::Stand {
-            cart,
-            place,
-            first,
-            last,
-        } => { !(cart.0 as usize == a && first.0 <= last.0 && n.0 <= last.0 && place.0 == p.0) }
-        Ban::Move {
-            cart,
-            from,
-            to,
-            first,
-            last,
-        } => {
-            !(cart.0 as usize == a
-                && first.0 <= last.0
-                && n.0 < last.0
-                && from.0 == p.0
-                && to.0 == p.0)
-        }
-        Ban::Late { .. } => true,
-        Ban::By { cart, .. } => !(cart.0 as usize != a
-            && target_of(trips, cart.0 as usize).0 == p.0),
-    }
-}
-
-fn lets_end(a: usize, n: Length, ban: Ban) -> bool
-    ensures { result ≡ lets_end a n.0.0 ban }
-{
-    match ban {
-        Ban::Late { cart, tick } => cart.0 as usize != a || tick.0 < n.0.0,
-        Ban::By { cart, tick } => cart.0 as usize != a || n.0.0 <= tick.0,
-        Ban::Stand { .. } | Ban::Move { .. } => true,
-    }
-}
-
-fn lets(trips: &[Trip], a: usize, act: Act, ban: Ban) -> bool
-    ensures { result ≡ lets trips.now a act ban }
-{
-    match act {
-        Act::Be { place, tick } => lets_be(trips, a, tick, place, ban),
-        Act::Go { from, to, tick } => lets_go(a, tick, from, to, ban),
-        Act::Rest { place, tick } => lets_rest(trips, a, tick, place, ban),
-        Act::End { length } => lets_end(a, length, ban),
-    }
-}
-
-// Whether every ban lets the cart `a` do it.
-pub fn all_let(trips: &[Trip], bans: Bans, a: usize, act: Act) -> bool
-    ensures { result ≡ every (lets trips.now a act) (listed bans.entry) }
-{
-    if let Some(ban) = bans.more
-        && !lets(trips, a, act, ban)
+impl<'a, M> CartSearch<'a, M> {
+    // Whether the ban lets the cart be at the place at the tick.
+    fn lets_be(&self, t: Tick, p: Place, ban: Ban) -> bool
+        ensures { result ≡ lets_be self.now.trips.now self.now.cart t.0 p.0 ban }
     {
-        return false;
-    }
-    for ban in bans.branch {
-        if !lets(trips, a, act, *ban) {
-            return false;
+        match ban {
+            Ban::Stand {
+                cart,
+                place,
+                first,
+                last,
+            } => !(usize::from(cart) == self.cart && covers(first, last, t) && place == p),
+            Ban::By { cart, tick } => !(usize::from(cart) != self.cart
+                && tick <= t
+                && trip_of(self.trips, usize::from(cart)).target == p),
+            Ban::Move { .. } | Ban::Late { .. } => true,
         }
     }
-    true
+
+    // Whether it lets the cart go from one place to the other, or wait where they are one, arriving at the tick.
+    fn lets_go(&self, t: Tick, p: Place, q: Place, ban: Ban) -> bool
+        ensures { result ≡ lets_go self.now.cart t.0 p.0 q.0 ban }
+    {
+        match ban {
+            Ban::Move {
+                cart,
+                from,
+                to,
+                first,
+                last,
+            } => !(usize::from(cart) == self.cart
+                && covers(first, last, t)
+                && from == p
+                && to == q),
+            Ban::Stand { .. } | Ban::Late { .. } | Ban::By { .. } => true,
+        }
+    }
+
+    // Whether it lets the cart be and wait at the place at every tick from this on.
+    fn lets_rest(&self, n: Tick, p: Place, ban: Ban) -> bool
+        ensures { result ≡ lets_rest self.now.trips.now self.now.cart n.0 p.0 ban }
+    {
+        match ban {
+            Ban::Stand {
+                cart,
+                place,
+                first,
+                last,
+            } => !(usize::from(cart) == self.cart && first <= last && n <= last && place == p),
+            Ban::Move {
+                cart,
+                from,
+                to,
+                first,
+                last,
+            } => !(usize::from(cart) == self.cart
+                && first <= last
+                && n < last
+                && from == p
+                && to == p),
+            Ban::Late { .. } => true,
+            Ban::By { cart, .. } => !(usize::from(cart) != self.cart
+                && trip_of(self.trips, usize::from(cart)).target == p),
+        }
+    }
+
+    // Whether it lets the cart have the length.
+    fn lets_end(&self, n: Length, ban: Ban) -> bool
+        ensures { result ≡ lets_end self.now.cart n.0.0 ban }
+    {
+        match ban {
+            Ban::Late { cart, tick } => usize::from(cart) != self.cart || tick < n.0,
+            Ban::By { cart, tick } => usize::from(cart) != self.cart || n.0 <= tick,
+            Ban::Stand { .. } | Ban::Move { .. } => true,
+        }
+    }
+
+    // Whether all bans let the cart be there then.
+    pub fn can_be(&self, t: Tick, p: Place) -> bool
+        ensures { result ≡ can_be self.now.trips.now (listed self.now.bans) self.now.cart t.0 p.0 }
+    {
+        self.bans.all(|ban| self.lets_be(t, p, ban))
+    }
+
+    // Whether all bans let it go so.
+    pub fn can_go(&self, t: Tick, p: Place, q: Place) -> bool
+        ensures { result ≡ can_go (listed self.now.bans) self.now.cart t.0 p.0 q.0 }
+    {
+        self.bans.all(|ban| self.lets_go(t, p, q, ban))
+    }
+
+    // Whether the bans let the cart go from `p` to `q`, and be there at the tick.
+    pub fn can_enter(&self, t: Tick, p: Place, q: Place) -> bool
+        ensures { result ≡ can_enter self.now.trips.now (listed self.now.bans) self.now.cart t.0 p.0 q.0 }
+    {
+        self.can_go(t, p, q) && self.can_be(t, q)
+    }
+
+    // Whether the bans let the cart have the length, and rest at its target then.
+    pub fn can_end(&self, n: Length) -> bool
+        ensures { result ≡ can_end self.now.trips.now (listed self.now.bans) self.now.cart n.0.0 }
+    {
+        let target = trip_of(self.trips, self.cart).target;
+        self.bans.all(|ban| self.lets_end(n, ban))
+            && self.bans.all(|ban| self.lets_rest(n.0, target, ban))
+    }
 }

@@ -3,16 +3,14 @@
 mod allowed;
 mod arrivals;
 mod bans;
+mod branch;
+mod cart_search;
 mod claims;
 mod lengths;
 mod rows;
-mod stands;
 mod ticks;
 mod trips;
 mod workspace;
 
-pub use bans::Bans;
-pub use claims::cheaper;
-pub use lengths::least_length;
-pub use stands::{can_stand, stands_before};
+pub use branch::Branch;
 pub use workspace::Workspace;

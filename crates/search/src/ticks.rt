@@ -1,61 +1,47 @@
 // The row of a workspace, from tick to tick.
 ghost use Rattle.std.specs.Prelude.{◌≡◌};
 ghost use Rattle.search.specs.BanLists.{listed};
-ghost use Rattle.search.specs.Rows.{first_row, next_row, row_at};
+ghost use Rattle.search.specs.Rows.{marked, first_row, next_row, row_at};
 ghost use Rattle.search.specs.Workspaces.{row_of};
 
-use crate::bans::Bans;
-use crate::rows::{begin, step};
+use crate::cart_search::CartSearch;
+use crate::rows::marks;
 use crate::workspace::Workspace;
-use floor::{FloorMap, Tick};
-use motion::Trip;
+use floor::{FloorMap, Place, Tick};
 use std::mem::swap;
 
-// Makes the row that of tick 0.
-pub fn start<M: FloorMap>(work: &mut Workspace, map: &M, trips: &[Trip], bans: Bans, a: usize)
-    ensures { row_of (M.floor map.now).count work.new ≡ first_row trips.now (listed bans.entry) a (M.floor map.now).count }
-{
-    let n = map.places();
-    begin(trips, bans, a, &mut work.row[0..n]);
-}
+impl<'a, M: FloorMap> CartSearch<'a, M> {
+    // Makes the row that of tick 0.
+    pub fn start(&self, work: &mut Workspace)
+        ensures { row_of (M.floor self.now.map.now).count work.new ≡ first_row self.now.trips.now (listed self.now.bans) self.now.cart (M.floor self.now.map.now).count }
+    {
+        let n = self.map.places();
+        self.begin(&mut work.row[0..n]);
+    }
 
-// Makes of the row that of the next tick, `t`.
-pub fn advance<M: FloorMap>(
-    work: &mut Workspace,
-    map: &M,
-    trips: &[Trip],
-    bans: Bans,
-    a: usize,
-    t: Tick,
-)
-    ensures { row_of (M.floor map.now).count work.new ≡ next_row (M.floor map.now) trips.now (listed bans.entry) a t.0 (row_of (M.floor map.now).count work.old) }
-{
-    let n = map.places();
-    step(
-        map,
-        trips,
-        bans,
-        a,
-        t,
-        &work.row[0..n],
-        &mut work.other[0..n],
-    );
-    swap(&mut work.row, &mut work.other);
-}
+    // Makes of the row that of the next tick, `t`.
+    pub fn advance(&self, work: &mut Workspace, t: Tick)
+        ensures { row_of (M.floor self.now.map.now).count work.new ≡ next_row (M.floor self.now.map.now) self.now.trips.now (listed self.now.bans) self.now.cart t.0 (row_of (M.floor self.now.map.now).count work.old) }
+    {
+        let n = self.map.places();
+        self.step(t, &work.row[0..n], &mut work.other[0..n]);
+        swap(&mut work.row, &mut work.other);
+    }
 
-// Makes the row that of the tick.
-pub fn run_to<M: FloorMap>(
-    work: &mut Workspace,
-    map: &M,
-    trips: &[Trip],
-    bans: Bans,
-    a: usize,
-    tick: Tick,
-)
-    ensures { row_of (M.floor map.now).count work.new ≡ row_at (M.floor map.now) trips.now (listed bans.entry) a tick.0 }
-{
-    start(work, map, trips, bans, a);
-    for u in 0..tick.0 {
-        advance(work, map, trips, bans, a, Tick(u + 1));
+    // Makes the row that of the tick: a loop over ticks, since each row is written from the one before.
+    pub fn run_to(&self, work: &mut Workspace, tick: Tick)
+        ensures { row_of (M.floor self.now.map.now).count work.new ≡ row_at (M.floor self.now.map.now) self.now.trips.now (listed self.now.bans) self.now.cart tick.0 }
+    {
+        self.start(work);
+        for u in 0..tick.0 {
+            self.advance(work, Tick(u + 1));
+        }
+    }
+
+    // Whether the row marks the place.
+    pub fn marks(&self, work: &Workspace, place: Place) -> bool
+        ensures { result ≡ marked (row_of (M.floor self.now.map.now).count work.now) place.0 }
+    {
+        marks(&work.row[0..self.map.places()], place)
     }
 }

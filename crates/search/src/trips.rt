@@ -1,26 +1,16 @@
 // Where a cart starts, and where it has to be in the end.
-ghost use Rattle.std.specs.Prelude.{◌≡◌};
-ghost use Rattle.motion.specs.Routes.{start_of, target_of};
+ghost use Rattle.std.specs.Prelude.{◌≡◌, slice_index_or};
+ghost use Rattle.motion.specs.Routes.{nowhere};
 
 use floor::Place;
 use motion::Trip;
 
-pub fn start_of(trips: &[Trip], a: usize) -> Place
-    ensures { result.0 ≡ start_of trips.now a }
+// The trip of the cart. That of a cart that is not there is from place 0 to place 0.
+pub fn trip_of(trips: &[Trip], cart: usize) -> Trip
+    ensures { result ≡ slice_index_or trips.now cart nowhere }
 {
-    if a < trips.len() {
-        trips[a].start
-    } else {
-        Place(0)
-    }
-}
-
-pub fn target_of(trips: &[Trip], a: usize) -> Place
-    ensures { result.0 ≡ target_of trips.now a }
-{
-    if a < trips.len() {
-        trips[a].target
-    } else {
-        Place(0)
-    }
+    trips.get(cart).copied().unwrap_or(Trip {
+        start: Place(0),
+        target: Place(0),
+    })
 }

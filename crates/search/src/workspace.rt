@@ -1,9 +1,10 @@
-// The memory that a search uses, made once.
+// The memory that searches use, made before them.
 ghost use Rattle.std.specs.Prelude.{◌≡◌, false, replicate, IfOk, vec_len};
 
 use std::alloc::{AllocError, Global};
 
 // Two rows, each with a mark for every place that a floor can have: that of a tick, and the one that is written next.
+// They are lent and swapped, so that a search asks for no memory.
 #[derive(Drop)]
 pub struct Workspace {
     pub(crate) row: Vec<bool>,

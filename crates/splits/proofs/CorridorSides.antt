@@ -1,26 +1,41 @@
--- The corridor's answer, from the places that were followed.
-use Rattle.std.proofs.Common.{◌≡◌, ℕ, Bool, true, false, not, ◌&&◌, List, Ok, Err, sym, ap, ◌∙◌, ap₂}
+-- The corridor's answer, from the tests that were passed and the chain that was followed.
+use Rattle.std.proofs.Common.{◌≡◌, Bool, true, false, not, ◌&&◌, List, Ok, Result, refl, sym, ap, ◌∙◌, ap₂}
 use Rattle.floor.specs.Checks.{refuse, ◌>>◌}
 use Rattle.floor.specs.Floor.{Floor}
+use Rattle.motion.specs.Listed.{numbers}
 use Rattle.motion.specs.declared.trip.Trip.{Trip}
 use Rattle.motion.specs.declared.ban.Ban.{Ban}
 use Rattle.splits.specs.Conditions.{is_two, is_on_floor, is_in_time, judge}
 use Rattle.splits.specs.Corridor.{corridor_bans}
 use Rattle.splits.specs.CorridorRule.{along, listed_at, is_lying, led_to, corridor_sides}
 use Rattle.splits.specs.declared.corridor.passage.Passage.{Passage}
-use Rattle.splits.specs.declared.refusal.SplitRefusal.TheVariants.{Unlawful}
+use Rattle.splits.specs.declared.corridor.places.Chain.{Chain}
+use Rattle.splits.specs.declared.refusal.SplitRefusal.{SplitRefusal}
+use Rattle.splits.specs.declared.refusal.SplitRefusal.TheVariants.{NoCart, NoPlace, BadTick, Unlawful}
 
-module _ (f : Floor) (trips : List Trip) (bans : List Ban) (o : Passage) (carts places ticks : Bool) (passed : Ok tt ≡ judge carts places ticks) (two : carts ≡ is_two trips o.a o.b)
-    (on_floor : places ≡ (is_on_floor f o.p && is_on_floor f o.q)) (in-time : ticks ≡ (is_in_time o.m && is_in_time o.n)) (ps : List ℕ) (led : ps ≡ along f o.p.0 o.q.0 64) where
+passed : {E : Type 0} (b : Bool) (e : E) → Ok tt ≡ refuse (not b) e → b ≡ true
+passed true e h = refl
+passed false e h = cc
+
+all_passed : (carts p q m n : Bool) → carts ≡ true → p ≡ true → q ≡ true → m ≡ true → n ≡ true → judge carts (p && q) (m && n) ≡ Ok tt
+all_passed carts p q m n c-yes p-yes q-yes m-yes n-yes = rw (c-yes, p-yes, q-yes, m-yes, n-yes) refl
+
+module _ (f : Floor) (trips : List Trip) (bans : List Ban) (o : Passage) (two : Ok tt ≡ refuse (not (is_two trips o.a o.b)) NoCart)
+    (p_on : Ok tt ≡ refuse (not (is_on_floor f o.p)) NoPlace) (q_on : Ok tt ≡ refuse (not (is_on_floor f o.q)) NoPlace)
+    (m_in : Ok tt ≡ refuse (not (is_in_time o.m)) BadTick) (n_in : Ok tt ≡ refuse (not (is_in_time o.n)) BadTick)
+    (chain : Chain) (same : chain.passage ≡ o) (led : numbers chain.places ≡ along f o.p.0 o.q.0 64) where
   conditions_hold : judge (is_two trips o.a o.b) (is_on_floor f o.p && is_on_floor f o.q) (is_in_time o.m && is_in_time o.n) ≡ Ok tt
-  conditions_hold = sym (passed ∙ ap₂ (λ x y. judge x y ticks) two on_floor ∙ ap (judge (is_two trips o.a o.b) (is_on_floor f o.p && is_on_floor f o.q)) in-time)
+  conditions_hold = all_passed _ _ _ _ _ (passed _ _ two) (passed _ _ p_on) (passed _ _ q_on) (passed _ _ m_in) (passed _ _ n_in)
 
-  by_the_places : (lies : Bool) → lies ≡ is_lying f trips bans o (listed_at ps) → corridor_sides f trips bans o ≡ (refuse (not lies) Unlawful >> Ok (corridor_bans o (led_to f o)))
-  by_the_places lies is =
-      ap₂ (λ j w. j >> (refuse (not w) Unlawful >> Ok (corridor_bans o (led_to f o)))) conditions_hold (ap (λ w. is_lying f trips bans o (listed_at w)) (sym led) ∙ sym is)
+  by_the_chain : (lies : Bool) → lies ≡ is_lying f trips bans chain.passage (listed_at (numbers chain.places)) →
+      corridor_sides f trips bans o ≡ (refuse (not lies) Unlawful >> Ok (corridor_bans chain.passage (listed_at (numbers chain.places))))
+  by_the_chain lies is =
+      ap₂ (λ j w. j >> (refuse (not w) Unlawful >> Ok (corridor_bans o (led_to f o)))) conditions_hold
+      (sym (is ∙ ap₂ (λ w ps. is_lying f trips bans w (listed_at ps)) same led)) ∙
+      ap₂ (λ w ps. refuse (not lies) Unlawful >> Ok (corridor_bans w (listed_at ps))) (sym same) (sym led)
 
-  pub corridor_refused : false ≡ is_lying f trips bans o (listed_at ps) → Err Unlawful ≡ corridor_sides f trips bans o
-  corridor_refused fails = sym (by_the_places false fails)
-
-  pub corridor_given : true ≡ is_lying f trips bans o (listed_at ps) → Ok (corridor_bans o (listed_at ps)) ≡ corridor_sides f trips bans o
-  corridor_given passes = ap (λ w. Ok (corridor_bans o (listed_at w))) led ∙ sym (by_the_places true passes)
+  -- from what the last test answered
+  pub corridor_answer : (lies : Bool) → lies ≡ is_lying f trips bans chain.passage (listed_at (numbers chain.places)) →
+      (tested : Result (Unit {0}) SplitRefusal) → tested ≡ refuse (not lies) Unlawful →
+      (tested >> Ok (corridor_bans chain.passage (listed_at (numbers chain.places)))) ≡ corridor_sides f trips bans o
+  corridor_answer lies is tested told = ap (λ r. r >> Ok (corridor_bans chain.passage (listed_at (numbers chain.places)))) told ∙ sym (by_the_chain lies is)

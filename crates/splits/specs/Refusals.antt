@@ -1,5 +1,5 @@
--- The number of each refusal.
-use Rattle.std.specs.Prelude.{ℕ}
+-- The number and the word of each refusal.
+use Rattle.std.specs.Prelude.{ℕ, List, codes}
 use Rattle.splits.specs.declared.refusal.SplitRefusal.{SplitRefusal}
 use Rattle.splits.specs.declared.refusal.SplitRefusal.TheVariants.{NoCart, NoPlace, BadTick, Unlawful}
 
@@ -8,3 +8,9 @@ number_of NoCart = 12
 number_of NoPlace = 6
 number_of BadTick = 18
 number_of Unlawful = 19
+
+abbrev pub word_of : SplitRefusal → List ℕ
+word_of NoCart = codes "no cart"
+word_of NoPlace = codes "no place"
+word_of BadTick = codes "tick"
+word_of Unlawful = codes "unlawful"

@@ -4,8 +4,8 @@ ghost use Rattle.splits.specs.BesideRuleLemmas.{beside_lawful};
 use crate::refusal::SplitRefusal;
 use crate::rule::SplitRule;
 use floor::FloorMap;
-use motion::{Ban, Trip};
-use search::Workspace;
+use motion::Ban;
+use search::{Branch, Workspace};
 
 // Two rules side by side: the first that knows the letter answers.
 #[derive(Drop)]
@@ -34,16 +34,14 @@ impl<A: SplitRule, B: SplitRule> SplitRule for Beside<A, B> {
     fn sides<M: FloorMap>(
         &self,
         work: &mut Workspace,
-        map: &M,
-        trips: &[Trip],
-        bans: &[Ban],
+        branch: &Branch<M>,
         letter: u8,
         operands: &[u8],
     ) -> Result<(Ban, Ban), SplitRefusal> {
         if self.first.knows(letter) {
-            self.first.sides(work, map, trips, bans, letter, operands)
+            self.first.sides(work, branch, letter, operands)
         } else {
-            self.second.sides(work, map, trips, bans, letter, operands)
+            self.second.sides(work, branch, letter, operands)
         }
     }
 }

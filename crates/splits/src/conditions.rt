@@ -1,59 +1,45 @@
 // What every letter asks of its carts, places and ticks.
-ghost use Rattle.std.specs.Prelude.{◌≡◌, ◌&&◌, length, nat_lt};
-ghost use Rattle.splits.specs.Conditions.{is_two, is_on_floor, is_in_time, judge};
+ghost use Rattle.std.specs.Prelude.{◌≡◌, length, not, nat_lt};
+ghost use Rattle.floor.specs.Checks.{refuse};
+ghost use Rattle.splits.specs.Conditions.{is_two, is_on_floor, is_in_time};
+ghost use Rattle.splits.specs.declared.refusal.SplitRefusal.TheVariants.{NoCart, NoPlace, BadTick};
 
 use crate::refusal::SplitRefusal;
 use floor::{Cart, FloorMap, Place, Tick};
 use motion::Trip;
 
-pub fn is_there(trips: &[Trip], cart: Cart) -> bool
-    ensures { result ≡ nat_lt cart.0 (length trips.now) }
+const LAST_TICK: Tick = Tick(4000);
+
+// Refused where the condition fails.
+pub fn ensure(holds: bool, refusal: SplitRefusal) -> Result<(), SplitRefusal>
+    ensures { result ≡ refuse (not holds) refusal }
 {
-    (cart.0 as usize) < trips.len()
+    if holds { Ok(()) } else { Err(refusal) }
 }
 
-pub fn is_two(trips: &[Trip], a: Cart, b: Cart) -> bool
-    ensures { result ≡ is_two trips.now a b }
+// A test of carts and one of places: a test of numbers below a bound would take the one for the other.
+pub fn check_cart(trips: &[Trip], cart: Cart) -> Result<(), SplitRefusal>
+    ensures { result ≡ refuse (not (nat_lt cart.0 (length trips.now))) NoCart }
 {
-    is_there(trips, a) && is_there(trips, b) && a.0 != b.0
+    ensure(usize::from(cart) < trips.len(), SplitRefusal::NoCart)
 }
 
-pub fn is_on_floor<M: FloorMap>(map: &M, p: Place) -> bool
-    ensures { result ≡ is_on_floor (M.FloorMap.floor map.now) p }
+pub fn check_two_carts(trips: &[Trip], a: Cart, b: Cart) -> Result<(), SplitRefusal>
+    ensures { result ≡ refuse (not (is_two trips.now a b)) NoCart }
 {
-    (p.0 as usize) < map.places()
+    check_cart(trips, a)?;
+    check_cart(trips, b)?;
+    ensure(a != b, SplitRefusal::NoCart)
 }
 
-pub fn are_on_floor<M: FloorMap>(map: &M, p: Place, q: Place) -> bool
-    ensures { result ≡ (is_on_floor (M.FloorMap.floor map.now) p && is_on_floor (M.FloorMap.floor map.now) q) }
+pub fn check_place<M: FloorMap>(map: &M, p: Place) -> Result<(), SplitRefusal>
+    ensures { result ≡ refuse (not (is_on_floor (M.FloorMap.floor map.now) p)) NoPlace }
 {
-    is_on_floor(map, p) && is_on_floor(map, q)
+    ensure(usize::from(p) < map.places(), SplitRefusal::NoPlace)
 }
 
-pub fn is_in_time(t: Tick) -> bool
-    ensures { result ≡ is_in_time t }
+pub fn check_tick(t: Tick) -> Result<(), SplitRefusal>
+    ensures { result ≡ refuse (not (is_in_time t)) BadTick }
 {
-    t.0 <= 4000
-}
-
-pub fn are_in_time(t: Tick, u: Tick) -> bool
-    ensures { result ≡ (is_in_time t && is_in_time u) }
-{
-    is_in_time(t) && is_in_time(u)
-}
-
-// Whether the carts, the places and the ticks are as they should be, tested in this order.
-pub fn judge(carts: bool, places: bool, ticks: bool) -> Result<(), SplitRefusal>
-    ensures { result ≡ judge carts places ticks }
-{
-    if !carts {
-        return Err(SplitRefusal::NoCart);
-    }
-    if !places {
-        return Err(SplitRefusal::NoPlace);
-    }
-    if !ticks {
-        return Err(SplitRefusal::BadTick);
-    }
-    Ok(())
+    ensure(t <= LAST_TICK, SplitRefusal::BadTick)
 }

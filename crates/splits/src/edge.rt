@@ -1,15 +1,17 @@
-ghost use Rattle.std.specs.Prelude.{◌≡◌};
-ghost use Rattle.motion.specs.declared.ban.Ban.TheVariants.{Move};
+ghost use Rattle.std.specs.Prelude.{◌≡◌, ◌&&◌, not, nat_le};
+ghost use Rattle.floor.specs.Checks.{refuse};
+ghost use Rattle.splits.specs.Conditions.{is_in_time};
 ghost use Rattle.splits.specs.Edge.{crossing, edge_rules};
 ghost use Rattle.splits.specs.VertexEdgeTarget.{edge_lawful};
+ghost use Rattle.splits.specs.declared.refusal.SplitRefusal.TheVariants.{BadTick};
 
-use crate::conditions::{are_on_floor, is_in_time, is_two, judge};
+use crate::conditions::{check_place, check_tick, check_two_carts, ensure};
 use crate::operands::{cart_in, of_width, place_in, tick_in};
 use crate::refusal::SplitRefusal;
 use crate::rule::SplitRule;
 use floor::{Cart, FloorMap, Place, Tick, is_joined};
-use motion::{Ban, Trip};
-use search::Workspace;
+use motion::Ban;
+use search::{Branch, Workspace};
 
 // Letter `E`: two carts do not cross one connection in opposite directions in one step.
 #[derive(Clone, Copy)]
@@ -25,6 +27,7 @@ pub struct Crossing {
     pub tick: Tick,
 }
 
+// No `From`: bytes mean this only behind the letter.
 fn read(operands: &[u8]) -> Crossing
     ensures { result ≡ crossing operands.now }
 {
@@ -37,16 +40,12 @@ fn read(operands: &[u8]) -> Crossing
     }
 }
 
-fn go(cart: Cart, from: Place, to: Place, tick: Tick) -> Ban
-    ensures { result ≡ Move cart from to tick tick }
+// A move arrives at tick 1 at the earliest.
+fn check_arrival(tick: Tick) -> Result<(), SplitRefusal>
+    ensures { result ≡ refuse (not (nat_le 1 tick.0 && is_in_time tick)) BadTick }
 {
-    Ban::Move {
-        cart,
-        from,
-        to,
-        first: tick,
-        last: tick,
-    }
+    ensure(tick > Tick(0), SplitRefusal::BadTick)?;
+    check_tick(tick)
 }
 
 impl SplitRule for Edge {
@@ -65,21 +64,19 @@ impl SplitRule for Edge {
     fn sides<M: FloorMap>(
         &self,
         work: &mut Workspace,
-        map: &M,
-        trips: &[Trip],
-        bans: &[Ban],
+        branch: &Branch<M>,
         letter: u8,
         operands: &[u8],
     ) -> Result<(Ban, Ban), SplitRefusal> {
         let e = read(operands);
-        judge(
-            is_two(trips, e.a, e.b),
-            are_on_floor(map, e.from, e.to),
-            1 <= e.tick.0 && is_in_time(e.tick),
-        )?;
-        if !is_joined(map, e.from, e.to) {
-            return Err(SplitRefusal::Unlawful);
-        }
-        Ok((go(e.a, e.from, e.to, e.tick), go(e.b, e.to, e.from, e.tick)))
+        check_two_carts(branch.trips, e.a, e.b)?;
+        check_place(branch.map, e.from)?;
+        check_place(branch.map, e.to)?;
+        check_arrival(e.tick)?;
+        ensure(is_joined(branch.map, e.from, e.to), SplitRefusal::Unlawful)?;
+        Ok((
+            Ban::move_at(e.a, e.from, e.to, e.tick),
+            Ban::move_at(e.b, e.to, e.from, e.tick),
+        ))
     }
 }

@@ -1,37 +1,35 @@
-// The numbers among the operands of a letter.
-ghost use Rattle.std.specs.Prelude.{◌≡◌, ◌<◌};
+// The numbers among the operands of a letter, by functions of two parameters: a type around the bytes would be made
+// anew in each rule.
+ghost use Rattle.std.specs.Prelude.{◌≡◌};
 ghost use Rattle.splits.specs.Operands.{byte, word, cart_in, place_in, tick_in, of_width};
 
 use floor::{Cart, Place, Tick};
 
-pub fn byte(operands: &[u8], i: usize) -> u8
+pub fn byte_in(operands: &[u8], i: usize) -> u8
     ensures { result ≡ byte operands.now i }
 {
-    if i < operands.len() { operands[i] } else { 0 }
+    operands.get(i).copied().unwrap_or(0)
 }
 
 fn word(operands: &[u8], i: usize) -> u16
-    requires { i < 64 }
     ensures { result ≡ word operands.now i }
 {
-    byte(operands, i) as u16 * 256 + byte(operands, i + 1) as u16
+    u16::from_be_bytes([byte_in(operands, i), byte_in(operands, i.saturating_add(1))])
 }
 
 pub fn cart_in(operands: &[u8], i: usize) -> Cart
     ensures { result ≡ cart_in operands.now i }
 {
-    Cart(byte(operands, i))
+    Cart(byte_in(operands, i))
 }
 
 pub fn place_in(operands: &[u8], i: usize) -> Place
-    requires { i < 64 }
     ensures { result ≡ place_in operands.now i }
 {
     Place(word(operands, i))
 }
 
 pub fn tick_in(operands: &[u8], i: usize) -> Tick
-    requires { i < 64 }
     ensures { result ≡ tick_in operands.now i }
 {
     Tick(word(operands, i))
@@ -41,5 +39,5 @@ pub fn tick_in(operands: &[u8], i: usize) -> Tick
 pub fn of_width(n: usize, bytes: &[u8]) -> Option<usize>
     ensures { result ≡ of_width n bytes.now }
 {
-    if n <= bytes.len() { Some(n) } else { None }
+    (n <= bytes.len()).then_some(n)
 }

@@ -3,10 +3,11 @@ ghost use Rattle.splits.specs.Rules.{Rules, LawfulRules};
 
 use crate::refusal::SplitRefusal;
 use floor::FloorMap;
-use motion::{Ban, Trip};
-use search::Workspace;
+use motion::Ban;
+use search::{Branch, Workspace};
 
-// What can be asked of split rules. Asking alters nothing: every question takes the rules by `&`.
+// What can be asked of split rules. Asking alters nothing: every question takes the rules by `&`. A rule of one letter
+// has its letter and its width in a line each: a trait with the two as constants would be longer than what it saves.
 pub trait SplitRule {
     // what the rules mean
     ghost rules: { Self → Rules };
@@ -19,17 +20,15 @@ pub trait SplitRule {
     fn width(&self, letter: u8, bytes: &[u8]) -> Option<usize>
         ensures { result ≡ (rules self.now).width letter bytes.now };
 
-    // the left ban and the right ban that the letter gives on a branch with these bans, or why it gives none
+    // the left ban and the right ban that the letter gives on the branch, or why it gives none
     fn sides<M: FloorMap>(
         &self,
         work: &mut Workspace,
-        map: &M,
-        trips: &[Trip],
-        bans: &[Ban],
+        branch: &Branch<M>,
         letter: u8,
         operands: &[u8],
     ) -> Result<(Ban, Ban), SplitRefusal>
-        ensures { result ≡ (rules self.now).sides (M.FloorMap.floor map.now) trips.now bans.now letter operands.now };
+        ensures { result ≡ (rules self.now).sides (M.FloorMap.floor branch.now.map.now) branch.now.trips.now branch.now.bans.now letter operands.now };
 
     ghost lawful: { (s : Self) → LawfulRules (rules s) };
 }

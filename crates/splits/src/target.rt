@@ -2,13 +2,13 @@ ghost use Rattle.std.specs.Prelude.{◌≡◌};
 ghost use Rattle.splits.specs.Target.{arrival, target_rules};
 ghost use Rattle.splits.specs.VertexEdgeTarget.{target_lawful};
 
-use crate::conditions::{is_in_time, is_there, judge};
+use crate::conditions::{check_cart, check_tick};
 use crate::operands::{cart_in, of_width, tick_in};
 use crate::refusal::SplitRefusal;
 use crate::rule::SplitRule;
 use floor::{Cart, FloorMap, Tick};
-use motion::{Ban, Trip};
-use search::Workspace;
+use motion::Ban;
+use search::{Branch, Workspace};
 
 // Letter `T`: a cart's length is above a tick, or it is home by then and keeps its target to itself.
 #[derive(Clone, Copy)]
@@ -21,6 +21,7 @@ pub struct Arrival {
     pub tick: Tick,
 }
 
+// No `From`: bytes mean this only behind the letter.
 fn read(operands: &[u8]) -> Arrival
     ensures { result ≡ arrival operands.now }
 {
@@ -46,14 +47,13 @@ impl SplitRule for Target {
     fn sides<M: FloorMap>(
         &self,
         work: &mut Workspace,
-        map: &M,
-        trips: &[Trip],
-        bans: &[Ban],
+        branch: &Branch<M>,
         letter: u8,
         operands: &[u8],
     ) -> Result<(Ban, Ban), SplitRefusal> {
         let Arrival { cart, tick } = read(operands);
-        judge(is_there(trips, cart), true, is_in_time(tick))?;
+        check_cart(branch.trips, cart)?;
+        check_tick(tick)?;
         Ok((Ban::Late { cart, tick }, Ban::By { cart, tick }))
     }
 }

@@ -1,15 +1,14 @@
 ghost use Rattle.std.specs.Prelude.{◌≡◌};
-ghost use Rattle.motion.specs.declared.ban.Ban.TheVariants.{Stand};
 ghost use Rattle.splits.specs.Vertex.{meeting, vertex_rules};
 ghost use Rattle.splits.specs.VertexEdgeTarget.{vertex_lawful};
 
-use crate::conditions::{is_in_time, is_on_floor, is_two, judge};
+use crate::conditions::{check_place, check_tick, check_two_carts};
 use crate::operands::{cart_in, of_width, place_in, tick_in};
 use crate::refusal::SplitRefusal;
 use crate::rule::SplitRule;
 use floor::{Cart, FloorMap, Place, Tick};
-use motion::{Ban, Trip};
-use search::Workspace;
+use motion::Ban;
+use search::{Branch, Workspace};
 
 // Letter `V`: two carts are not at one place at one tick.
 #[derive(Clone, Copy)]
@@ -24,6 +23,7 @@ pub struct Meeting {
     pub tick: Tick,
 }
 
+// No `From`: bytes mean this only behind the letter.
 fn read(operands: &[u8]) -> Meeting
     ensures { result ≡ meeting operands.now }
 {
@@ -32,17 +32,6 @@ fn read(operands: &[u8]) -> Meeting
         b: cart_in(operands, 1),
         place: place_in(operands, 2),
         tick: tick_in(operands, 4),
-    }
-}
-
-fn stand(cart: Cart, place: Place, tick: Tick) -> Ban
-    ensures { result ≡ Stand cart place tick tick }
-{
-    Ban::Stand {
-        cart,
-        place,
-        first: tick,
-        last: tick,
     }
 }
 
@@ -62,18 +51,17 @@ impl SplitRule for Vertex {
     fn sides<M: FloorMap>(
         &self,
         work: &mut Workspace,
-        map: &M,
-        trips: &[Trip],
-        bans: &[Ban],
+        branch: &Branch<M>,
         letter: u8,
         operands: &[u8],
     ) -> Result<(Ban, Ban), SplitRefusal> {
         let v = read(operands);
-        judge(
-            is_two(trips, v.a, v.b),
-            is_on_floor(map, v.place),
-            is_in_time(v.tick),
-        )?;
-        Ok((stand(v.a, v.place, v.tick), stand(v.b, v.place, v.tick)))
+        check_two_carts(branch.trips, v.a, v.b)?;
+        check_place(branch.map, v.place)?;
+        check_tick(v.tick)?;
+        Ok((
+            Ban::stand_at(v.a, v.place, v.tick),
+            Ban::stand_at(v.b, v.place, v.tick),
+        ))
     }
 }

@@ -3,12 +3,12 @@ use Rattle.std.proofs.Common.{◌≡◌, ℕ, eqb, List, [], ◌∷◌, length, 
 use mathlib.Core.Path.{subst⁻¹}
 use Rattle.std.proofs.lemmas.Bool.{cond-true, eq-eqb}
 use Rattle.std.proofs.lemmas.Bool.Decides.{nat_tests}
+use Rattle.std.proofs.lemmas.List.{nil_from_length}
 use Rattle.tally.specs.Laws.{Complete, SettlesLeast}
 use Rattle.tally.specs.Openings.{Opening, carts, opened}
 use Rattle.tally.specs.Standings.{Says, settle, shown_sum, standing, unshown, verdict_of}
 use Rattle.tally.specs.Tallies.{Tally, is_shown}
 use Rattle.tally.specs.declared.refusal.Refusal.{Refusal}
-use Rattle.tally.specs.declared.standing.Settlement.TheVariants.{Foreign, Settled}
 use Rattle.tally.specs.declared.standing.Verdict.TheVariants.{Least, OtherSum}
 use Rattle.tally.proofs.Finding.{decides_shown}
 use Rattle.tally.proofs.Totals.{none_of_total, total_none}
@@ -20,19 +20,15 @@ verdict_least (Ok x) branches missing sum claim is = (grind (arith, nat_tests), 
 least_verdict : (claim : ℕ) → verdict_of (Ok tt) 0 0 claim claim ≡ Least claim
 least_verdict claim = cond-true (eqb claim claim) (Least claim) (OtherSum claim) (eq-eqb claim claim refl)
 
-no_elements : {A : Type 0} (xs : List A) → length xs ≡ 0 → xs ≡ []
-no_elements [] e = refl
-no_elements (x ∷ xs) e = absurd (omega arith)
-
 module _ (o : Opening) (t : Tally) where
-  own_card : settle o t o.card ≡ Settled (standing o t)
-  own_card = cond-true (eqb o.card o.card) (Settled (standing o t)) Foreign (eq-eqb o.card o.card refl)
+  own_card : settle o t o.card ≡ Ok (standing o t)
+  own_card = cond-true (eqb o.card o.card) (Ok (standing o t)) (Err (record {})) (eq-eqb o.card o.card refl)
 
   pub complete_from_least : SettlesLeast o t → Complete o t
   complete_from_least says =
       let is = verdict_least (opened o) _ _ _ _ (subst (λ s. Says s (Least o.claim)) own_card says) in
       record {
-        none_open = no_elements t.branches is.0;
+        none_open = nil_from_length t.branches is.0;
         all_shown = λ a lt. let none = none_of_total _ (carts o) is.1 a lt in (decides_shown a t.shown).0 (grind (arith, nat_tests));
         sums = is.2;
       }

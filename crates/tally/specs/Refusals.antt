@@ -1,5 +1,5 @@
--- The number of each refusal, and what a call answers where one of its parts refuses.
-use Rattle.std.specs.Prelude.{ℕ}
+-- The number and the word of each refusal, and what a call answers where one of its parts refuses.
+use Rattle.std.specs.Prelude.{ℕ, List, codes}
 use Rattle.motion.specs.declared.route.RouteRefusal.{RouteRefusal}
 use Rattle.motion.specs.declared.route.RouteRefusal.TheVariants.{NoPlace as RouteNoPlace, NoRoute}
 use Rattle.splits.specs.declared.refusal.SplitRefusal.{SplitRefusal}
@@ -23,6 +23,23 @@ number_of Unlawful = 19
 number_of CheaperSet = 20
 number_of Letter = 21
 number_of CutShort = 22
+
+abbrev pub word_of : Refusal → List ℕ
+word_of NoPlace = codes "no place"
+word_of Carts = codes "carts"
+word_of Shared = codes "shared"
+word_of Claim = codes "claim"
+word_of NoCart = codes "no cart"
+word_of Shown = codes "shown"
+word_of BadRoute = codes "route"
+word_of InConflict = codes "conflict"
+word_of NothingOpen = codes "nothing open"
+word_of Full = codes "full"
+word_of BadTick = codes "tick"
+word_of Unlawful = codes "unlawful"
+word_of CheaperSet = codes "cheaper"
+word_of Letter = codes "letter"
+word_of CutShort = codes "cut short"
 
 -- the refusal of the route test
 abbrev pub from_route : RouteRefusal → Refusal

@@ -1,13 +1,13 @@
 -- The standing of a check, and its settlement.
-use Rattle.std.specs.Prelude.{◌≡◌, ℕ, cond, List, [], length, Ok, Err, Result, ◌==◌, nat_le}
+use Rattle.std.specs.Prelude.{◌≡◌, ℕ, cond, List, [], ◌++◌, length, codes, decimal, Ok, Err, Result, ◌==◌, nat_le}
 use Rattle.motion.specs.Listed.{steps}
 use Rattle.motion.specs.Routes.{total}
 use Rattle.std.specs.Option.{unwrap_or}
 use Rattle.tally.specs.Openings.{Opening, carts, opened}
+use Rattle.tally.specs.Refusals.{number_of}
 use Rattle.tally.specs.Tallies.{Tally, is_shown, shown_of}
 use Rattle.tally.specs.declared.refusal.Refusal.{Refusal}
-use Rattle.tally.specs.declared.standing.Settlement.{Settlement}
-use Rattle.tally.specs.declared.standing.Settlement.TheVariants.{Foreign, Settled}
+use Rattle.tally.specs.declared.standing.Foreign.{Foreign}
 use Rattle.tally.specs.declared.standing.Standing.{Standing}
 use Rattle.tally.specs.declared.standing.Verdict.{Verdict}
 use Rattle.tally.specs.declared.standing.Verdict.TheVariants.{Barred, Open, Unshown, OtherSum, Least}
@@ -29,6 +29,14 @@ verdict_of (Err e) branches missing sum claim = Barred e
 verdict_of (Ok x) branches missing sum claim =
     cond (nat_le 1 branches) (Open branches) (cond (nat_le 1 missing) (Unshown missing) (cond (sum == claim) (Least claim) (OtherSum sum)))
 
+-- the word and the number of a verdict
+abbrev pub text_of : Verdict → List ℕ
+text_of (Barred e) = codes "barred " ++ decimal (number_of e)
+text_of (Open branches) = codes "open " ++ decimal branches
+text_of (Unshown carts) = codes "unshown " ++ decimal carts
+text_of (OtherSum sum) = codes "othersum " ++ decimal sum
+text_of (Least claim) = codes "least " ++ decimal claim
+
 abbrev pub standing : Opening → Tally → Standing
 standing o t = record {
   branches = length t.branches;
@@ -37,9 +45,10 @@ standing o t = record {
   verdict = verdict_of (opened o) (length t.branches) (unshown o t) (shown_sum o t) o.claim;
 }
 
-abbrev pub settle : Opening → Tally → ℕ → Settlement
-settle o t card = cond (card == o.card) (Settled (standing o t)) Foreign
+-- the standing, unless the check was opened with another card
+abbrev pub settle : Opening → Tally → ℕ → Result Standing Foreign
+settle o t card = cond (card == o.card) (Ok (standing o t)) (Err (record {}))
 
-abbrev pub Says : Settlement → Verdict → Type 0
-Says Foreign v = ⊥
-Says (Settled s) v = s.verdict ≡ v
+abbrev pub Says : Result Standing Foreign → Verdict → Type 0
+Says (Err e) v = ⊥
+Says (Ok s) v = s.verdict ≡ v

@@ -6,7 +6,7 @@ mod standing;
 ghost use Rattle.tally.specs.Laws.{AlwaysHolds, HonestSucceeds, OpeningTells};
 
 pub use refusal::Refusal;
-pub use standing::{Settlement, Standing, Verdict};
+pub use standing::{Foreign, Settlement, Standing, Verdict};
 
 // What the answer to an opening says of it.
 pub fn opening_tells()

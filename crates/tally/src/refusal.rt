@@ -1,81 +1,72 @@
-ghost use Rattle.std.specs.Prelude.{◌≡◌};
-ghost use Rattle.tally.specs.Refusals.{number_of, from_route, from_rule};
+ghost use Rattle.std.specs.Prelude.{◌≡◌, Some};
+ghost use Rattle.tally.specs.Refusals.{number_of, word_of, from_route, from_rule};
 
 use motion::RouteRefusal;
 use splits::SplitRefusal;
+use std::error::Error;
+use std::fmt;
+use std::fmt::{Display, Formatter};
 
 // Why a check is barred, or a call on it refused.
 #[derive(Clone, Copy, PartialEq, Eq, Debug)]
 pub enum Refusal {
     // a place that is not on the floor
-    NoPlace,
+    NoPlace = 6,
     // not 1 to 16 carts
-    Carts,
+    Carts = 9,
     // two carts share a start or share a target
-    Shared,
+    Shared = 10,
     // a claim above 4,000
-    Claim,
+    Claim = 11,
     // a cart that is not there, or one cart named for both
-    NoCart,
+    NoCart = 12,
     // a cart that has a route already
-    Shown,
+    Shown = 13,
     // a list of places that is no route of the cart
-    BadRoute,
+    BadRoute = 14,
     // a route that conflicts with a shown one
-    InConflict,
+    InConflict = 15,
     // no branch is open
-    NothingOpen,
+    NothingOpen = 16,
     // a branch under 64 splits, or 1,000,000 splits taken
-    Full,
+    Full = 17,
     // a tick above 4,000, or tick 0 where a move arrives
-    BadTick,
+    BadTick = 18,
     // the letter's own condition fails
-    Unlawful,
+    Unlawful = 19,
     // a set that keeps the branch's bans sums below the claim
-    CheaperSet,
+    CheaperSet = 20,
     // a letter that no rule knows
-    Letter,
+    Letter = 21,
     // operands cut short
-    CutShort,
+    CutShort = 22,
 }
 
 impl Refusal {
     pub fn number(self) -> u8
         ensures { result ≡ number_of self }
     {
-        match self {
-            Refusal::NoPlace => 6,
-            Refusal::Carts => 9,
-            Refusal::Shared => 10,
-            Refusal::Claim => 11,
-            Refusal::NoCart => 12,
-            Refusal::Shown => 13,
-            Refusal::BadRoute => 14,
-            Refusal::InConflict => 15,
-            Refusal::NothingOpen => 16,
-            Refusal::Full => 17,
-            Refusal::BadTick => 18,
-            Refusal::Unlawful => 19,
-            Refusal::CheaperSet => 20,
-            Refusal::Letter => 21,
-            Refusal::CutShort => 22,
-        }
+        self as u8
     }
+}
 
-    // What a show answers where the route test refuses.
-    pub fn of_route(refusal: RouteRefusal) -> Refusal
-        ensures { result ≡ from_route refusal }
-    {
+// What a show answers where the route test refuses.
+impl From<RouteRefusal> for Refusal {
+    ghost from_gives = { λ x r. r ≡ from_route x };
+
+    fn from(refusal: RouteRefusal) -> Refusal {
         match refusal {
             RouteRefusal::NoPlace => Refusal::NoPlace,
             RouteRefusal::NoRoute => Refusal::BadRoute,
         }
     }
+}
 
-    // What a split answers where the rule refuses.
-    pub fn of_rule(refusal: SplitRefusal) -> Refusal
-        ensures { result ≡ from_rule refusal }
-    {
+// What a split answers where the rule refuses.
+impl From<SplitRefusal> for Refusal {
+    ghost from_gives = { λ x r. r ≡ from_rule x };
+
+    fn from(refusal: SplitRefusal) -> Refusal {
         match refusal {
             SplitRefusal::NoCart => Refusal::NoCart,
             SplitRefusal::NoPlace => Refusal::NoPlace,
@@ -84,3 +75,31 @@ impl Refusal {
         }
     }
 }
+
+// The word.
+impl Display for Refusal {
+    ghost output = { λ refusal. Some (word_of refusal) };
+
+    fn fmt<W: fmt::Write>(&self, f: &mut Formatter<W>) -> fmt::Result {
+        let word = match self {
+            Refusal::NoPlace => "no place",
+            Refusal::Carts => "carts",
+            Refusal::Shared => "shared",
+            Refusal::Claim => "claim",
+            Refusal::NoCart => "no cart",
+            Refusal::Shown => "shown",
+            Refusal::BadRoute => "route",
+            Refusal::InConflict => "conflict",
+            Refusal::NothingOpen => "nothing open",
+            Refusal::Full => "full",
+            Refusal::BadTick => "tick",
+            Refusal::Unlawful => "unlawful",
+            Refusal::CheaperSet => "cheaper",
+            Refusal::Letter => "letter",
+            Refusal::CutShort => "cut short",
+        };
+        f.write_str(word)
+    }
+}
+
+impl Error for Refusal {}

@@ -1,7 +1,10 @@
-ghost use Rattle.std.specs.Prelude.{◌≡◌};
-ghost use Rattle.tally.specs.Standings.{verdict_of};
+ghost use Rattle.std.specs.Prelude.{◌≡◌, Some, codes};
+ghost use Rattle.tally.specs.Standings.{text_of, verdict_of};
 
 use crate::refusal::Refusal;
+use std::error::Error;
+use std::fmt;
+use std::fmt::{Display, Formatter};
 
 // What a check has come to: the first of these that fits.
 #[derive(Clone, Copy, PartialEq, Eq, Debug)]
@@ -19,6 +22,7 @@ pub enum Verdict {
 }
 
 impl Verdict {
+    // The first that fits, of the five things that `verdict_of` speaks of.
     pub fn of(
         opened: Result<(), Refusal>,
         branches: usize,
@@ -30,17 +34,25 @@ impl Verdict {
     {
         match opened {
             Err(refusal) => Verdict::Barred(refusal),
-            Ok(()) => {
-                if branches > 0 {
-                    Verdict::Open(branches)
-                } else if unshown > 0 {
-                    Verdict::Unshown(unshown)
-                } else if sum == claim {
-                    Verdict::Least(claim)
-                } else {
-                    Verdict::OtherSum(sum)
-                }
-            }
+            Ok(()) if branches > 0 => Verdict::Open(branches),
+            Ok(()) if unshown > 0 => Verdict::Unshown(unshown),
+            Ok(()) if sum == claim => Verdict::Least(claim),
+            Ok(()) => Verdict::OtherSum(sum),
+        }
+    }
+}
+
+// The word and the number.
+impl Display for Verdict {
+    ghost output = { λ verdict. Some (text_of verdict) };
+
+    fn fmt<W: fmt::Write>(&self, f: &mut Formatter<W>) -> fmt::Result {
+        match *self {
+            Verdict::Barred(refusal) => write!(f, "barred {}", refusal.number()),
+            Verdict::Open(branches) => write!(f, "open {branches}"),
+            Verdict::Unshown(carts) => write!(f, "unshown {carts}"),
+            Verdict::OtherSum(shown) => write!(f, "othersum {shown}"),
+            Verdict::Least(claim) => write!(f, "least {claim}"),
         }
     }
 }
@@ -54,9 +66,19 @@ pub struct Standing {
     pub verdict: Verdict,
 }
 
-// What is answered to a card: the standing, unless the check was opened with another card.
+// What is answered to a card with which another check was opened.
 #[derive(Clone, Copy, PartialEq, Eq, Debug)]
-pub enum Settlement {
-    Foreign,
-    Settled(Standing),
+pub struct Foreign;
+
+impl Display for Foreign {
+    ghost output = { λ _. Some (codes "the card of another check") };
+
+    fn fmt<W: fmt::Write>(&self, f: &mut Formatter<W>) -> fmt::Result {
+        f.write_str("the card of another check")
+    }
 }
+
+impl Error for Foreign {}
+
+// What is answered to a card.
+pub type Settlement = Result<Standing, Foreign>;

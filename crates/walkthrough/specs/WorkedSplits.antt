@@ -1,11 +1,12 @@
 -- Splits worked out by hand, each with the sides or the refusal that it gives.
 use Rattle.std.specs.Prelude.{◌≡◌, ℕ, List, [], ◌∷◌, Ok, Err, All}
 use Rattle.floor.specs.Floor.{Floor}
-use Rattle.maps.specs.Networks.{Network, network_floor}
-use Rattle.maps.specs.declared.connection.Connection.{Connection}
+use Rattle.maps.specs.Networks.{network_floor}
 use Rattle.motion.specs.declared.ban.Ban.{Ban}
 use Rattle.motion.specs.declared.ban.Ban.TheVariants.{Stand}
 use Rattle.motion.specs.declared.trip.Trip.{Trip}
+use Rattle.samples.specs.Floors.{line}
+use Rattle.samples.specs.Trips.{trip}
 use Rattle.splits.specs.Own.{own}
 use Rattle.splits.specs.Rules.{Sides}
 use Rattle.splits.specs.declared.refusal.SplitRefusal.TheVariants.{Unlawful}
@@ -16,16 +17,6 @@ pub data SplitCase : Type 0 where
 
 abbrev pub GivesSides : SplitCase → Type 0
 GivesSides (splitting f trips bans letter ops sides) = own.sides f trips bans letter ops ≡ sides
-
-abbrev pub between : ℕ → ℕ → Connection
-between p q = record { first = record { 0 = p }; second = record { 0 = q } }
-
-abbrev pub trip : ℕ → ℕ → Trip
-trip p q = record { start = record { 0 = p }; target = record { 0 = q } }
-
--- six places in a line
-abbrev pub line : Network
-line = record { places = 6; connections = between 0 1 ∷ between 1 2 ∷ between 2 3 ∷ between 3 4 ∷ between 4 5 ∷ [] }
 
 -- the carts go through the line, one each way, the first from p; the corridor is that from 1 by 2, three places long,
 -- and they are to be through by ticks m and n

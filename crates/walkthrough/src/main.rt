@@ -1,17 +1,17 @@
-// Runs splits and checks: worked splits, what each letter of a split gives on a hall of each layout, and a whole check
-// call by call.
+// Runs splits and checks: worked splits, what each letter of a split gives on a hall of each layout, and whole
+// checks call by call.
 #![tactic(auto)]
 
 mod checks;
 mod letters;
 mod splitting;
-mod trips;
 mod worked;
 
-use anyhow::anyhow;
+use anyhow::Context;
 use mapfile::read_map;
 use maps::AnyMap;
-use std::fs;
+use std::fmt::Display;
+use std::{fs, io};
 use worked::worked_splits;
 
 fn main(rt: HostRuntime) -> anyhow::Result<()> {
@@ -23,7 +23,7 @@ fn run(rt: &HostRuntime) -> anyhow::Result<()> {
     splitting::run(rt)?;
     let map = read_hall(rt, "hall.list")?;
     letters::tell_list_letters(rt, &map)?;
-    checks::tell_check(rt, &map)?;
+    checks::tell_checks(rt, &map)?;
     let map = read_hall(rt, "hall.grid")?;
     letters::tell_grid_letters(rt, &map)
 }
@@ -32,8 +32,13 @@ fn run(rt: &HostRuntime) -> anyhow::Result<()> {
 fn read_hall(rt: &HostRuntime, name: &str) -> anyhow::Result<AnyMap> {
     println!(rt; "{name}:")?;
     let bytes = fs::read(rt, name)?;
-    match read_map(rt.alloc(), bytes.as_slice()) {
-        Ok(map) => Ok(map),
-        Err(_) => Err(anyhow!("the hall is not read")),
+    read_map(rt.alloc(), &bytes).context("the hall is not read")
+}
+
+// The items on one line, each behind a space.
+pub fn tell_each<T: Display>(rt: &HostRuntime, items: &[T]) -> io::Result<()> {
+    for item in items {
+        print!(rt; " {item}")?;
     }
+    Ok(())
 }

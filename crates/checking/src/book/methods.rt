@@ -22,35 +22,11 @@ impl Book {
         }
     }
 
-    pub fn branches(&self) -> &Branches
-        ensures { result.now ≡ self.now.branches }
-    {
-        &self.branches
-    }
-
-    pub fn routes(&self) -> &Routes
-        ensures { result.now ≡ self.now.routes }
-    {
-        &self.routes
-    }
-
-    pub fn splits(&self) -> usize
-        ensures { result ≡ self.now.splits }
-    {
-        self.splits
-    }
-
     // Whether the current branch, or the check, has had all the splits that it may have.
     pub fn is_full(&self) -> bool
         ensures { result ≡ (nat_le 64 (current self.now.branches).depth || nat_le 1000000 self.now.splits) }
     {
         self.branches.depth() >= 64 || self.splits >= 1_000_000
-    }
-
-    pub fn closings(&self) -> usize
-        ensures { result ≡ self.now.closings }
-    {
-        self.closings
     }
 
     pub fn show(&mut self, cart: Cart, places: &[Place])

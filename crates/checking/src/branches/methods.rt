@@ -1,8 +1,10 @@
-ghost use Rattle.std.specs.Prelude.{◌≡◌, ◌<◌, true, ◌∷◌, length, drop};
+ghost use Rattle.std.specs.Prelude.{◌≡◌, ◌<◌, true, Some, None, ◌∷◌, if◌then◌else◌, length, drop};
 ghost use Rattle.checking.specs.OpenBranches.{branches_of, current, current_bans};
+ghost use Rattle.std.specs.Option.{option_copied};
 ghost use Rattle.tally.specs.Tallies.{at_start, under};
 
 use crate::branches::Branches;
+use arrayvec::ArrayVec;
 use floor::{Cart, Tick};
 use motion::Ban;
 
@@ -17,30 +19,23 @@ impl Branches {
         };
         Branches {
             bans: [unused; 64],
-            others: [None; 64],
-            depth: 0,
+            others: ArrayVec::new(),
             open: true,
         }
     }
 
-    pub fn is_open(&self) -> bool
-        ensures { result ≡ self.now.open }
+    // The bans on the way down to the current branch, if there is one.
+    pub fn current(&self) -> Option<&[Ban]>
+        ensures { option_copied result ≡ (if self.now.open then Some (current_bans self.now) else None) }
     {
-        self.open
-    }
-
-    // The bans on the way down to the current branch.
-    pub fn bans(&self) -> &[Ban]
-        ensures { result.now ≡ current_bans self.now }
-    {
-        &self.bans[0..self.depth]
+        self.open.then_some(&self.bans[..self.others.len()])
     }
 
     // How many splits the current branch lies under.
     pub fn depth(&self) -> usize
         ensures { result ≡ (current self.now).depth }
     {
-        self.depth
+        self.others.len()
     }
 
     // How many branches are open.
@@ -50,13 +45,7 @@ impl Branches {
         if !self.open {
             return 0;
         }
-        let mut count = 1;
-        for i in 0..self.depth {
-            if self.others[i].is_some() {
-                count += 1;
-            }
-        }
-        count
+        1 + self.others.iter().filter(|other| other.is_some()).count()
     }
 
     // Turns the current branch into two, and goes down to the left one.
@@ -64,9 +53,9 @@ impl Branches {
         requires { (self.old.open ≡ true) × ((current self.old).depth < 64) }
         ensures { branches_of self.new ≡ under (current self.old) left ∷ (under (current self.old) right ∷ drop 1 (branches_of self.old)) }
     {
-        self.bans[self.depth] = left;
-        self.others[self.depth] = Some(right);
-        self.depth += 1;
+        let depth = self.others.len();
+        self.bans[depth] = left;
+        self.others.push(Some(right));
     }
 
     // Leaves the current branch: goes up to the nearest split whose right side is still to come, and down that side.
@@ -74,14 +63,11 @@ impl Branches {
         requires { self.old.open ≡ true }
         ensures { branches_of self.new ≡ drop 1 (branches_of self.old) }
     {
-        while self.depth > 0 {
-            let at = self.depth - 1;
-            self.depth = at;
-            let other = self.others[at];
+        while let Some(other) = self.others.pop() {
             if let Some(right) = other {
-                self.bans[at] = right;
-                self.others[at] = None;
-                self.depth = at + 1;
+                let depth = self.others.len();
+                self.bans[depth] = right;
+                self.others.push(None);
                 return;
             }
         }

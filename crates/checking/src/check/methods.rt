@@ -1,7 +1,7 @@
-ghost use Rattle.std.specs.Prelude.{◌≡◌, OnErr};
+ghost use Rattle.std.specs.Prelude.{◌≡◌, IfOk, IfErr, OnErr};
 ghost use Rattle.checking.specs.Books.{tally_in};
 ghost use Rattle.checking.specs.CallsMade.{meant};
-ghost use Rattle.checking.specs.Checks.{opening, Answers};
+ghost use Rattle.checking.specs.Checks.{opening_of, Answers, IsCurrent, RefusesBranches};
 ghost use Rattle.motion.specs.Listed.{numbers};
 ghost use Rattle.tally.specs.Calls.{show, split, close};
 ghost use Rattle.tally.specs.Standings.{settle, standing};
@@ -9,60 +9,57 @@ ghost use Rattle.tally.specs.Tallies.{at_start};
 
 use crate::book::Book;
 use crate::call::Call;
-use crate::check::{Card, Check, Terms};
-use crate::opened::opened;
+use crate::check::{Card, Check};
 use crate::sums::{shown_sum, unshown};
+use crate::terms::Terms;
 use floor::{Cart, FloorMap, Place};
-use motion::{Trip, check_route};
-use search::{Workspace, cheaper};
+use motion::check_route;
+use search::{Branch, Workspace};
 use splits::SplitRule;
-use tally::{Refusal, Settlement, Standing, Verdict};
+use tally::{Foreign, Refusal, Settlement, Standing, Verdict};
 
 // A check with one open branch without bans, and its card.
-pub fn open<'a, M: FloorMap, R: SplitRule>(
-    map: &'a M,
-    rules: &'a R,
-    trips: &'a [Trip],
-    claim: u16,
-    card: u32,
-) -> (Check<'a, M, R>, Card)
+pub fn open<'a, M: FloorMap, R: SplitRule>(terms: Terms<'a, M, R>) -> (Check<'a, M, R>, Card)
     ensures starts { tally_in result.0.book ≡ at_start }
-    ensures as_given { (result.0.terms.map ≡ map.entry) × (result.0.terms.rules ≡ rules.entry) × (result.0.terms.trips ≡ trips.entry) × (result.0.terms.claim ≡ claim) × (result.0.terms.card ≡ card) × (result.1.number ≡ card) }
+    ensures as_given { (result.0.terms ≡ terms.entry) × (result.1.number ≡ terms.entry.card) }
 {
-    let terms = Terms {
-        map,
-        rules,
-        trips,
-        claim,
-        card,
-    };
+    let number = terms.card;
     let book = Book::new();
-    (Check { terms, book }, Card { number: card })
+    (Check { terms, book }, Card { number })
 }
 
 impl<'a, M: FloorMap, R: SplitRule> Check<'a, M, R> {
     // Takes the places as the route of the cart.
     pub fn show(&mut self, cart: Cart, places: &[Place]) -> Result<(), Refusal>
-        ensures answers { Answers (opening (M.FloorMap.floor self.old.terms.map.now) (R.SplitRule.rules self.old.terms.rules.now) self.old.terms.trips.now self.old.terms.claim self.old.terms.card) self.old.book self.new.book (show cart.0 (numbers places.now)) result }
+        ensures answers { Answers (opening_of M.FloorMap.floor R.SplitRule.rules self.old.terms) self.old.book self.new.book (show cart.0 (numbers places.now)) result }
         ensures unchanged { OnErr result (self.new ≡ self.old) }
         ensures still { self.new.terms ≡ self.old.terms }
     {
-        opened(self.terms.map, self.terms.trips, self.terms.claim)?;
-        let a = cart.0 as usize;
-        if a >= self.terms.trips.len() {
-            return Err(Refusal::NoCart);
-        }
-        if self.book.routes().has(cart) {
+        self.terms.opened()?;
+        let trip = self.terms.trip(cart)?;
+        if self.book.routes.has(cart) {
             return Err(Refusal::Shown);
         }
-        if let Err(refusal) = check_route(self.terms.map, self.terms.trips[a], places) {
-            return Err(Refusal::of_route(refusal));
-        }
-        if self.book.routes().conflict(places) {
+        check_route(self.terms.map, trip, places)?;
+        if self.book.routes.conflict(places) {
             return Err(Refusal::InConflict);
         }
         self.book.show(cart, places);
         Ok(())
+    }
+
+    // The current branch, if the check may be opened and a branch is open.
+    fn branch(&self) -> Result<Branch<'_, M>, Refusal>
+        ensures found { IfOk result (λ b. IsCurrent (opening_of M.FloorMap.floor R.SplitRule.rules self.now.terms) self.now.book (M.FloorMap.floor b.map.now) b.trips.now b.bans.now) }
+        ensures refused { IfErr result (RefusesBranches (opening_of M.FloorMap.floor R.SplitRule.rules self.now.terms) self.now.book) }
+    {
+        self.terms.opened()?;
+        let bans = self.book.branches.current().ok_or(Refusal::NothingOpen)?;
+        Ok(Branch {
+            map: self.terms.map,
+            trips: self.terms.trips,
+            bans,
+        })
     }
 
     // Splits the current branch by a letter; what stands behind its operands is not read.
@@ -72,53 +69,36 @@ impl<'a, M: FloorMap, R: SplitRule> Check<'a, M, R> {
         letter: u8,
         operands: &[u8],
     ) -> Result<(), Refusal>
-        ensures answers { Answers (opening (M.FloorMap.floor self.old.terms.map.now) (R.SplitRule.rules self.old.terms.rules.now) self.old.terms.trips.now self.old.terms.claim self.old.terms.card) self.old.book self.new.book (split letter operands.now) result }
+        ensures answers { Answers (opening_of M.FloorMap.floor R.SplitRule.rules self.old.terms) self.old.book self.new.book (split letter operands.now) result }
         ensures unchanged { OnErr result (self.new ≡ self.old) }
         ensures still { self.new.terms ≡ self.old.terms }
     {
-        opened(self.terms.map, self.terms.trips, self.terms.claim)?;
-        if !self.book.branches().is_open() {
-            return Err(Refusal::NothingOpen);
-        }
+        let branch = self.branch()?;
         if self.book.is_full() {
             return Err(Refusal::Full);
         }
         if !self.terms.rules.knows(letter) {
             return Err(Refusal::Letter);
         }
-        let Some(width) = self.terms.rules.width(letter, operands) else {
-            return Err(Refusal::CutShort);
-        };
-        let bans = self.book.branches().bans();
-        match self.terms.rules.sides(
-            work,
-            self.terms.map,
-            self.terms.trips,
-            bans,
-            letter,
-            &operands[..width],
-        ) {
-            Ok((left, right)) => {
-                self.book.split(left, right);
-                Ok(())
-            }
-            Err(refusal) => Err(Refusal::of_rule(refusal)),
-        }
+        let width = self
+            .terms
+            .rules
+            .width(letter, operands)
+            .ok_or(Refusal::CutShort)?;
+        let operands = &operands[..width];
+        let (left, right) = self.terms.rules.sides(work, &branch, letter, operands)?;
+        self.book.split(left, right);
+        Ok(())
     }
 
     // Closes the current branch, if no set that keeps its bans sums below the claim.
     pub fn close(&mut self, work: &mut Workspace) -> Result<(), Refusal>
-        ensures answers { Answers (opening (M.FloorMap.floor self.old.terms.map.now) (R.SplitRule.rules self.old.terms.rules.now) self.old.terms.trips.now self.old.terms.claim self.old.terms.card) self.old.book self.new.book close result }
+        ensures answers { Answers (opening_of M.FloorMap.floor R.SplitRule.rules self.old.terms) self.old.book self.new.book close result }
         ensures unchanged { OnErr result (self.new ≡ self.old) }
         ensures still { self.new.terms ≡ self.old.terms }
     {
-        opened(self.terms.map, self.terms.trips, self.terms.claim)?;
-        if !self.book.branches().is_open() {
-            return Err(Refusal::NothingOpen);
-        }
-        let bans = self.book.branches().bans();
-        let claim = self.terms.claim;
-        if cheaper(work, self.terms.map, self.terms.trips, bans, claim) {
+        let branch = self.branch()?;
+        if branch.cheaper(work, self.terms.claim) {
             return Err(Refusal::CheaperSet);
         }
         self.book.close();
@@ -127,7 +107,7 @@ impl<'a, M: FloorMap, R: SplitRule> Check<'a, M, R> {
 
     // Makes a call of whichever kind.
     pub fn call(&mut self, work: &mut Workspace, call: Call) -> Result<(), Refusal>
-        ensures answers { Answers (opening (M.FloorMap.floor self.old.terms.map.now) (R.SplitRule.rules self.old.terms.rules.now) self.old.terms.trips.now self.old.terms.claim self.old.terms.card) self.old.book self.new.book (meant call.entry) result }
+        ensures answers { Answers (opening_of M.FloorMap.floor R.SplitRule.rules self.old.terms) self.old.book self.new.book (meant call.entry) result }
         ensures unchanged { OnErr result (self.new ≡ self.old) }
         ensures still { self.new.terms ≡ self.old.terms }
     {
@@ -140,42 +120,43 @@ impl<'a, M: FloorMap, R: SplitRule> Check<'a, M, R> {
 
     // What the check has come to.
     pub fn standing(&self) -> Standing
-        ensures { result ≡ standing (opening (M.FloorMap.floor self.now.terms.map.now) (R.SplitRule.rules self.now.terms.rules.now) self.now.terms.trips.now self.now.terms.claim self.now.terms.card) (tally_in self.now.book) }
+        ensures { result ≡ standing (opening_of M.FloorMap.floor R.SplitRule.rules self.now.terms) (tally_in self.now.book) }
     {
         Standing {
-            branches: self.book.branches().count(),
-            splits: self.book.splits(),
-            closings: self.book.closings(),
+            branches: self.book.branches.count(),
+            splits: self.book.splits,
+            closings: self.book.closings,
             verdict: self.verdict(),
         }
     }
 
+    // No `?`: a barred check has a verdict too, and only one that may be opened has at most 16 carts to count.
     fn verdict(&self) -> Verdict
-        ensures { result ≡ (standing (opening (M.FloorMap.floor self.now.terms.map.now) (R.SplitRule.rules self.now.terms.rules.now) self.now.terms.trips.now self.now.terms.claim self.now.terms.card) (tally_in self.now.book)).verdict }
+        ensures { result ≡ (standing (opening_of M.FloorMap.floor R.SplitRule.rules self.now.terms) (tally_in self.now.book)).verdict }
     {
-        if let Err(refusal) = opened(self.terms.map, self.terms.trips, self.terms.claim) {
+        if let Err(refusal) = self.terms.opened() {
             return Verdict::Barred(refusal);
         }
         Verdict::of(
             Ok(()),
-            self.book.branches().count(),
-            unshown(self.book.routes(), self.terms.trips.len()),
-            shown_sum(self.book.routes(), self.terms.trips.len()),
-            self.terms.claim as usize,
+            self.book.branches.count(),
+            unshown(&self.book.routes, self.terms.trips.len()),
+            shown_sum(&self.book.routes, self.terms.trips.len()),
+            usize::from(self.terms.claim),
         )
     }
 
     // Takes back the card: the standing, or foreign if it is another check's.
     pub fn settle(self, card: Card) -> Settlement
-        ensures { result ≡ settle (opening (M.FloorMap.floor self.entry.terms.map.now) (R.SplitRule.rules self.entry.terms.rules.now) self.entry.terms.trips.now self.entry.terms.claim self.entry.terms.card) (tally_in self.entry.book) card.number }
+        ensures { result ≡ settle (opening_of M.FloorMap.floor R.SplitRule.rules self.entry.terms) (tally_in self.entry.book) card.number }
     {
         let standing = self.standing();
-        let Check { terms, book } = self;
+        let Check { terms, book: _ } = self;
         let Card { number } = card;
         if number == terms.card {
-            Settlement::Settled(standing)
+            Ok(standing)
         } else {
-            Settlement::Foreign
+            Err(Foreign)
         }
     }
 }

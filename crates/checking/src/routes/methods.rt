@@ -1,11 +1,13 @@
-ghost use Rattle.std.specs.Prelude.{◌≡◌, ◌<◌, ◌≤◌, false, [], ◌∷◌, ◌++◌, length};
-ghost use Rattle.checking.specs.ShownRoutes.{route_at, shown_in};
+ghost use Rattle.std.specs.Prelude.{◌≡◌, ◌<◌, ◌≤◌, false, [], ◌∷◌, ◌++◌, length, nat_eq};
+ghost use Rattle.checking.specs.ShownRoutes.{shown_in};
 ghost use Rattle.floor.specs.Tests.{some};
 ghost use Rattle.motion.specs.Listed.{in_conflict, numbers, steps};
-ghost use Rattle.std.specs.Option.{unwrap_or};
+ghost use Rattle.std.specs.List.{find};
+ghost use Rattle.std.specs.Option.{option_copied, unwrap_or};
 ghost use Rattle.tally.specs.Tallies.{is_shown, places_of};
 
 use crate::routes::{Kept, Routes};
+use arrayvec::ArrayVec;
 use floor::{Cart, Place};
 use motion::in_conflict;
 
@@ -13,61 +15,43 @@ impl Routes {
     pub fn new() -> Routes
         ensures { shown_in result ≡ [] }
     {
-        let unused = Kept {
-            cart: Cart(0),
-            length: 0,
-        };
         Routes {
-            kept: [unused; 16],
-            places: [Place(0); 4096],
-            count: 0,
+            kept: ArrayVec::new(),
         }
     }
 
-    // The places of route number `i`.
-    fn route(&self, i: usize) -> &[Place]
-        requires { i < self.now.count }
-        ensures { numbers result.now ≡ (route_at self.now i).places }
+    // The route of the cart. `has` does without it, as its `any` is as short.
+    fn route(&self, cart: Cart) -> Option<&Kept>
+        ensures { option_copied result ≡ find (λ k. nat_eq k.cart.0 cart.0) self.now.kept.items }
     {
-        let first = 256 * i;
-        &self.places[first..first + self.kept[i].length as usize]
+        self.kept.iter().find(|kept| kept.cart == cart)
     }
 
     // Whether the cart has a route.
     pub fn has(&self, cart: Cart) -> bool
         ensures { result ≡ is_shown (shown_in self.now) cart.0 }
     {
-        for i in 0..self.count {
-            if self.kept[i].cart.0 == cart.0 {
-                return true;
-            }
-        }
-        false
+        self.kept.iter().any(|kept| kept.cart == cart)
     }
 
     // Whether the places conflict with a route shown.
     pub fn conflict(&self, places: &[Place]) -> bool
         ensures { result ≡ some (λ s. in_conflict (numbers places.now) s.places) (shown_in self.now) }
     {
-        for i in 0..self.count {
-            if in_conflict(places, self.route(i)) {
-                return true;
-            }
-        }
-        false
+        self.kept
+            .iter()
+            .any(|kept| in_conflict(places, &kept.places))
     }
 
-    // How many steps the cart's route has: none where it has no route.
+    // How many steps the cart's route has: none where it has no route. Of `map_or` it was not proved.
     pub fn steps(&self, cart: Cart) -> usize
         ensures steps { result ≡ steps (unwrap_or (places_of (shown_in self.now) cart.0) []) }
         ensures few { result ≤ 255 }
     {
-        for i in 0..self.count {
-            if self.kept[i].cart.0 == cart.0 {
-                return (self.kept[i].length as usize).saturating_sub(1);
-            }
+        match self.route(cart) {
+            Some(kept) => kept.places.len().saturating_sub(1),
+            None => 0,
         }
-        0
     }
 
     // One route more.
@@ -75,12 +59,11 @@ impl Routes {
         requires { (cart.0 < 16) × ((length places.now ≤ 256) × (is_shown (shown_in self.old) cart.0 ≡ false)) }
         ensures { shown_in self.new ≡ shown_in self.old ++ (record { cart = cart.0; places = numbers places.now } ∷ []) }
     {
-        let first = 256 * self.count;
-        self.places[first..first + places.len()].copy_from_slice(places);
-        self.kept[self.count] = Kept {
+        let mut kept = Kept {
             cart,
-            length: places.len() as u16,
+            places: ArrayVec::new(),
         };
-        self.count += 1;
+        kept.places.try_extend_from_slice(places).unwrap();
+        self.kept.push(kept);
     }
 }

@@ -1,13 +1,13 @@
 ghost use Rattle.std.specs.Prelude.{map as each, IfOk};
 ghost use Rattle.checking.specs.CallsMade.{meant};
-ghost use Rattle.checking.specs.Checks.{opening};
+ghost use Rattle.checking.specs.Checks.{opening_of};
 ghost use Rattle.checking.specs.Runs.{Follows, Promises};
 
 use crate::call::Call;
 use crate::check::methods::open;
 use crate::run::{Run, Step};
+use crate::terms::Terms;
 use floor::FloorMap;
-use motion::Trip;
 use search::Workspace;
 use splits::SplitRule;
 use std::alloc::{AllocError, Global};
@@ -16,18 +16,14 @@ use std::alloc::{AllocError, Global};
 pub fn run_calls<'a, M: FloorMap, R: SplitRule>(
     heap: Global,
     work: &mut Workspace,
-    map: &'a M,
-    rules: &'a R,
-    trips: &'a [Trip],
-    claim: u16,
-    card: u32,
+    terms: Terms<'a, M, R>,
     calls: &[Call],
 ) -> Result<Run, AllocError>
-    ensures follows_the_tally { IfOk result (Follows (opening (M.FloorMap.floor map.now) (R.SplitRule.rules rules.now) trips.now claim card) (each meant calls.now)) }
-    ensures keeps_its_promises { Promises (opening (M.FloorMap.floor map.now) (R.SplitRule.rules rules.now) trips.now claim card) (each meant calls.now) }
+    ensures follows_the_tally { IfOk result (Follows (opening_of M.FloorMap.floor R.SplitRule.rules terms.entry) (each meant calls.now)) }
+    ensures keeps_its_promises { Promises (opening_of M.FloorMap.floor R.SplitRule.rules terms.entry) (each meant calls.now) }
 {
     let mut steps = Vec::with_capacity(heap, calls.len())?;
-    let (mut check, card) = open(map, rules, trips, claim, card);
+    let (mut check, card) = open(terms);
     let start = check.standing();
     for call in calls {
         let answer = check.call(work, *call);

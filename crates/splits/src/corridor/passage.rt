@@ -2,7 +2,7 @@
 ghost use Rattle.std.specs.Prelude.{◌≡◌};
 ghost use Rattle.splits.specs.CorridorRule.{passage};
 
-use crate::operands::{byte, cart_in, place_in, tick_in};
+use crate::operands::{byte_in, cart_in, place_in, tick_in};
 use floor::{Cart, Place, Tick};
 
 // Cart `a` goes through the corridor of length `k` that begins with `p` and `q` by tick `m`, and cart `b` the other way
@@ -31,6 +31,7 @@ pub struct Through {
     pub tick: Tick,
 }
 
+// No `From`: bytes mean this only behind the letter.
 pub fn read(operands: &[u8]) -> Passage
     ensures { result ≡ passage operands.now }
 {
@@ -39,7 +40,7 @@ pub fn read(operands: &[u8]) -> Passage
         b: cart_in(operands, 1),
         p: place_in(operands, 2),
         q: place_in(operands, 4),
-        k: byte(operands, 6),
+        k: byte_in(operands, 6),
         m: tick_in(operands, 7),
         n: tick_in(operands, 9),
     }

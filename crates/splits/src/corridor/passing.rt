@@ -1,13 +1,15 @@
-// Whether a cart can only go through a corridor, and the other not be through before it.
+// Whether two carts can only go through a corridor, one each way.
 ghost use Rattle.std.specs.Prelude.{◌≡◌, ◌≤◌};
-ghost use Rattle.splits.specs.CorridorRule.{barred, is_passing};
+ghost use Rattle.motion.specs.Listed.{numbers};
+ghost use Rattle.splits.specs.CorridorRule.{barred, listed_at, is_passing, are_passing};
 
 use crate::corridor::passage::Through;
+use crate::corridor::places::Chain;
 use floor::{FloorMap, Tick};
-use motion::{Ban, Trip};
-use search::{Bans, Workspace, stands_before};
+use motion::Ban;
+use search::{Branch, Workspace};
 
-// The move into the last place, forbidden up to the tick.
+// The move into the last place, forbidden up to the tick. Made here alone, so it is no maker of `Ban`.
 fn barred(w: Through) -> Ban
     ensures { result ≡ barred w }
 {
@@ -20,28 +22,22 @@ fn barred(w: Through) -> Ban
     }
 }
 
-pub fn is_passing<M: FloorMap>(
-    work: &mut Workspace,
-    map: &M,
-    trips: &[Trip],
-    bans: &[Ban],
-    w: Through,
-) -> bool
+// Whether the cart can only go through, and the other not be through before it.
+fn is_passing<M: FloorMap>(work: &mut Workspace, branch: &Branch<M>, w: Through) -> bool
     requires { w.tick.0 ≤ 4000 }
-    ensures { result ≡ is_passing (M.FloorMap.floor map.now) trips.now bans.now w }
+    ensures { result ≡ is_passing (M.FloorMap.floor branch.now.map.now) branch.now.trips.now branch.now.bans.now w }
 {
-    let without = Bans {
-        branch: bans,
-        more: Some(barred(w)),
-    };
-    let branch = Bans {
-        branch: bans,
-        more: None,
-    };
     let by = Tick(w.tick.0 + 1);
-    let early = Tick(w.tick.0.saturating_sub(w.steps as u16));
-    if stands_before(work, map, trips, without, w.cart, w.last, by) {
-        return false;
+    let early = Tick(w.tick.0.saturating_sub(u16::from(w.steps)));
+    !branch.stands_before(work, Some(barred(w)), w.cart, w.last, by)
+        && !branch.stands_before(work, None, w.other, w.first, early)
+}
+
+impl Chain {
+    // Whether each cart can only go through, and the other not be through before it.
+    pub fn are_passing<M: FloorMap>(&self, work: &mut Workspace, branch: &Branch<M>) -> bool
+        ensures { result ≡ are_passing (M.FloorMap.floor branch.now.map.now) branch.now.trips.now branch.now.bans.now self.now.passage (listed_at (numbers self.now.places)) }
+    {
+        is_passing(work, branch, self.forth()) && is_passing(work, branch, self.back())
     }
-    !stands_before(work, map, trips, branch, w.other, w.first, early)
 }

@@ -1,25 +1,20 @@
-use Rattle.std.proofs.Common.{◌≡◌, ◌+◌, ◌/◌, ap, ◌∙◌, add-one, arith}
-use Rattle.account.specs.Degrees.{degrees}
-use Rattle.account.proofs.Degrees.{degrees_most}
+use Rattle.std.proofs.Common.{rules, ◌/◌, ◌^◌, length, ap, ◌∙◌, arith}
+use Rattle.std.proofs.lemmas.Iterator.{YieldsList-from_map, YieldsList-from_range}
+use Rattle.std.proofs.lemmas.Iterator.Consumers.{sum_from_yields_List, fits_from_yields_list}
+use Rattle.account.proofs.Degrees.{degrees_most, degrees_sum}
 use Rattle.account.proofs.survey.connections.Goals as goal
 
-pub overflow_add-ends : goal.overflow_add-ends
-overflow_add-ends g c =
+pub sum-ends-requires-clause-fits : goal.sum-ends-requires-clause-fits
+sum-ends-requires-clause-fits g c =
     let f = g.M.FloorMap.floor c.args.map.now in
     let law = g.met.M.FloorMap.lawful c.args.map.now in
-    let all = degrees_most f law c.loop-p.p in
-    let here = law.few c.loop-p.p in
     let most = law.most in
-    let told : c.loop-p.ends ≡ degrees f c.loop-p.p = c.loop-p.invariant in omega arith
-
-pub loop-p-preserved : goal.loop-p-preserved
-loop-p-preserved g c =
-    let f = g.M.FloorMap.floor c.args.map.now in
-    let told : c.loop-p.ends ≡ degrees f c.loop-p.p = c.loop-p.invariant in
-    let more : c.loop-p.ends + c.degree-ends.result ≡ degrees f (c.loop-p.p + 1) = omega (arith, ap (degrees f) (add-one c.loop-p.p)) in more
+    let all = degrees_most f law f.count in
+    let is = degrees_sum f f.count in
+    fits_from_yields_list c.map.result (2 ^ 64) (YieldsList-from_map _ (λ p. length (f.next p)) (YieldsList-from_range 0 c.places.result f.count (cc) (omega arith)) c.map.ensures.closure (λ x r q k. search rules)) (omega arith)
 
 pub returns : goal.returns
 returns g c =
     let f = g.M.FloorMap.floor c.args.map.now in
-    let told : c.loop-p.ends ≡ degrees f c.loop-p.p = c.loop-p.invariant in
-    let end : c.loop-p.p ≡ f.count = omega arith in ap (λ n. n / 2) (told ∙ ap (degrees f) end)
+    let law = g.met.M.FloorMap.lawful c.args.map.now in
+    ap (λ n. n / 2) (sum_from_yields_List c.map.result _ c.sum-ends.ensures.ran (YieldsList-from_map _ (λ p. length (f.next p)) (YieldsList-from_range 0 c.places.result f.count (cc) (omega arith)) c.map.ensures.closure (λ x r q k. search rules)) ∙ degrees_sum f f.count)

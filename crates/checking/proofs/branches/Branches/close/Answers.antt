@@ -1,19 +1,21 @@
-use Rattle.std.proofs.Common.{◌≡◌, ◌+◌, ◌-◌, sym, ap, ◌∙◌, arith}
+use Rattle.std.proofs.Common.{◌≡◌, ◌++◌, ◌∷◌, [], length, Some, None, sym, ap, ◌∙◌, arith}
+use Rattle.std.specs.Option.{option_to_list}
 use Rattle.checking.specs.OpenBranches.{rights}
 use Rattle.checking.proofs.Rights.{open_right, rights_none}
 use Rattle.checking.proofs.branches.Branches.close.Goals as goal
 
-pub returns-in-Some : goal.returns-in-Some
-returns-in-Some c =
-    let b = c.loop-self.self in
-    let inv = c.loop-self.invariant in
-    let whole : b.depth - 1 + 1 ≡ b.depth = omega arith in
-    let taken = open_right b.bans b.others (b.depth - 1) (omega arith) (omega arith) c.in-Some.right c.in-Some.is in
-    simp (c.requires, inv.1) (taken ∙ ap (rights b.bans b.others) whole ∙ inv.0)
+pub returns-in-Some-other : goal.returns-in-Some-other
+returns-in-Some-other c =
+    let b = c.loop-other.self in
+    let popped = c.pop.new.self.items in
+    let inv = c.loop-other.invariant in
+    let was : b.others.items ≡ popped ++ (Some c.in-Some-other.right ∷ []) = c.pop.ensures.items ∙ ap (λ o. popped ++ option_to_list o) (c.in-Some.is ∙ ap Some c.in-Some-other.is) in
+    rw (c.push.ensures.items, c.len-depth.ensures.value) (simp (c.requires, inv.1) (open_right b.bans popped (omega arith) c.in-Some-other.right ∙ ap (λ others. rights b.bans others (length others)) (sym was) ∙ inv.0))
 
-pub loop-self-preserved : goal.loop-self-preserved
-loop-self-preserved c =
-    let b = c.loop-self.self in
-    let inv = c.loop-self.invariant in
-    let whole : b.depth - 1 + 1 ≡ b.depth = omega arith in
-    (sym (rights_none b.bans b.others (b.depth - 1) c.in_default.is) ∙ ap (rights b.bans b.others) whole ∙ inv.0, inv.1)
+pub loop-other-preserved : goal.loop-other-preserved
+loop-other-preserved c =
+    let b = c.loop-other.self in
+    let popped = c.pop.new.self.items in
+    let inv = c.loop-other.invariant in
+    let was : b.others.items ≡ popped ++ (None ∷ []) = c.pop.ensures.items ∙ ap (λ o. popped ++ option_to_list o) (c.in-Some.is ∙ ap Some c.in_default-other.is) in
+    (sym (rights_none b.bans popped) ∙ ap (λ others. rights b.bans others (length others)) (sym was) ∙ inv.0, inv.1)

@@ -5,4 +5,4 @@ use Rattle.checking.proofs.branches.Branches.split.Goals as goal
 pub returns : goal.returns
 returns c =
     let b = c.args.self.now in
-    simp c.requires.0 (open_split b.bans b.others b.depth (omega arith) (omega arith) c.args.left c.args.right)
+    rw (c.push.ensures.items, c.len-depth.ensures.value) (simp c.requires.0 (open_split b.bans b.others.items (omega arith) c.args.left c.args.right))

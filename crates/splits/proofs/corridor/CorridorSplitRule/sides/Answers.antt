@@ -1,17 +1,23 @@
-use Rattle.std.proofs.Common.{Ok, ap, ◌∙◌}
+use Rattle.std.proofs.Common.{rules, ◌≡◌, Ok, Err, ap, ◌∙◌}
 use Rattle.splits.specs.CorridorRule.{corridor_sides}
-use Rattle.splits.proofs.CorridorSides.{corridor_refused, corridor_given}
+use Rattle.splits.proofs.CorridorSides.{corridor_answer}
 use Rattle.splits.proofs.corridor.CorridorSplitRule.sides.Goals as goal
 
-pub returns-then-not-is_lying : goal.returns-then-not-is_lying
-returns-then-not-is_lying g c =
-    let f = g.M.FloorMap.floor c.args.map.now in
-    corridor_refused f c.args.trips.now c.args.bans.now c.read-o.result _ _ _ c.in_ok-judge.ensures c.is_two.ensures c.are_on_floor.ensures c.are_in_time.ensures
-    _ c.follow.ensures c.if-not-is_lying.ensures ∙ ap (corridor_sides f c.args.trips.now c.args.bans.now) c.read-o.ensures
+pub returns-in_err-ensure : goal.returns-in_err-ensure
+returns-in_err-ensure g c =
+    let f = g.M.FloorMap.floor c.args.branch.now.map.now in
+    let told : c.from_residual-in_err-ensure.result ≡ Err c.in_err-ensure.field-0.0 = search rules in
+    told ∙
+    corridor_answer f c.args.branch.now.trips.now c.args.branch.now.bans.now c.read-o.result c.in_ok-check_two_carts.ensures c.in_ok-check_place.ensures
+    c.in_ok-check_place-2.ensures c.in_ok-check_tick.ensures c.in_ok-check_tick-2.ensures c.in_ok-chain.chain (rw c.in_ok-chain.ensures.ok_part at c.led.ensures.same)
+    (rw c.in_ok-chain.ensures.ok_part at c.led.ensures.led) c.is_lying.result c.is_lying.ensures _ c.in_err-ensure.ensures ∙
+    ap (corridor_sides f c.args.branch.now.trips.now c.args.branch.now.bans.now) c.read-o.ensures
 
 pub returns : goal.returns
 returns g c =
-    let f = g.M.FloorMap.floor c.args.map.now in
-    ap Ok c.bans_of.ensures ∙
-    corridor_given f c.args.trips.now c.args.bans.now c.read-o.result _ _ _ c.in_ok-judge.ensures c.is_two.ensures c.are_on_floor.ensures c.are_in_time.ensures
-    _ c.follow.ensures c.if-not-is_lying.ensures ∙ ap (corridor_sides f c.args.trips.now c.args.bans.now) c.read-o.ensures
+    let f = g.M.FloorMap.floor c.args.branch.now.map.now in
+    ap Ok c.bans.ensures ∙
+    corridor_answer f c.args.branch.now.trips.now c.args.branch.now.bans.now c.read-o.result c.in_ok-check_two_carts.ensures c.in_ok-check_place.ensures
+    c.in_ok-check_place-2.ensures c.in_ok-check_tick.ensures c.in_ok-check_tick-2.ensures c.in_ok-chain.chain (rw c.in_ok-chain.ensures.ok_part at c.led.ensures.same)
+    (rw c.in_ok-chain.ensures.ok_part at c.led.ensures.led) c.is_lying.result c.is_lying.ensures _ c.in_ok-ensure.ensures ∙
+    ap (corridor_sides f c.args.branch.now.trips.now c.args.branch.now.bans.now) c.read-o.ensures

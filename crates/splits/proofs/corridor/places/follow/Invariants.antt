@@ -3,7 +3,7 @@ use Rattle.splits.specs.CorridorRule.{along}
 use Rattle.splits.proofs.Listing.{written_and_left}
 use Rattle.splits.proofs.corridor.places.follow.Given as goal
 
-abbrev pub invariant-loop-i : goal.invariant-loop-i
-invariant-loop-i g l =
+abbrev pub invariant-loop-place : goal.invariant-loop-place
+invariant-loop-place g l =
     let f = g.M.FloorMap.floor l.map in
-    written_and_left f l.places l.i l.at l.next ≡ along f l.initial.at.0 l.initial.next.0 (length l.initial.places)
+    written_and_left f l.places l.place-index l.at l.next ≡ along f l.initial.at.0 l.initial.next.0 (length l.initial.places)

@@ -1,0 +1,12 @@
+use Rattle.std.proofs.Common.{◌≡◌, false}
+use Rattle.search.specs.BanLists.{listed}
+use Rattle.search.specs.Rows.{row_at, stands_before}
+use Rattle.search.specs.Workspaces.{row_of}
+use Rattle.search.proofs.branch.Branch.stands_before.Given as goal
+
+-- the row is that of tick u, and no row before it marks the place
+abbrev pub invariant-loop-u : goal.invariant-loop-u
+invariant-loop-u g l =
+    let s = l.search in
+    let f = g.M.FloorMap.floor s.map.now in
+    (row_of f.count l.work ≡ row_at f s.trips.now (listed s.bans) s.cart l.u) × (stands_before f s.trips.now (listed s.bans) s.cart l.u l.place.0 ≡ false)

@@ -1,8 +1,0 @@
-use Rattle.std.proofs.Common.{◌≡◌, ℕ}
-use Rattle.search.specs.BanLists.{listed}
-use Rattle.search.specs.Pushes.{pushed}
-use Rattle.search.specs.Rows.{marked}
-use Rattle.search.proofs.rows.step.Given as goal
-
-abbrev pub invariant-loop-p : goal.invariant-loop-p
-invariant-loop-p g l = (k : ℕ) → marked l.next k ≡ pushed (g.M.FloorMap.floor l.map) l.trips (listed l.bans) l.a l.t.0 l.row l.p k
