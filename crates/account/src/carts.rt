@@ -20,7 +20,12 @@ pub fn tell_list_carts(rt: &HostRuntime, map: &AnyMap) -> anyhow::Result<()> {
     tell_carts(rt, map, &small_trips(), &cases)
 }
 
-// Two carts around the blocked cells, of which one may not be at its target at tick 9.
+// Two carts that go around the blocked cells of the grid hall.
+pub fn grid_trips() -> [Trip; 2] {
+    [trip(0, 18), trip(9, 5)]
+}
+
+// The two carts of the grid hall, of which one may not be at its target at tick 9.
 pub fn tell_grid_carts(rt: &HostRuntime, map: &AnyMap) -> anyhow::Result<()> {
     let away = Ban::Stand {
         cart: Cart(1),
@@ -31,7 +36,7 @@ pub fn tell_grid_carts(rt: &HostRuntime, map: &AnyMap) -> anyhow::Result<()> {
     tell_carts(
         rt,
         map,
-        &[trip(0, 18), trip(9, 5)],
+        &grid_trips(),
         &[("no bans", &[]), ("cart 1 not at 5 at tick 9", &[away])],
     )
 }

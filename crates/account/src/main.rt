@@ -1,14 +1,17 @@
-// An account of a hall in each layout: what its file holds, how short its carts' routes can be, and what becomes of
-// damaged copies of the file.
+// An account of a hall in each layout: what its file holds, how short its carts' routes can be, what each letter of a
+// split gives, and of one hall whole checks call by call; and what becomes of damaged copies of the files.
 #![tactic(auto)]
 
 mod carts;
+mod checks;
+mod letters;
 mod survey;
 
 use anyhow::Context;
 use floor::{FloorMap, Place, neighbours_of};
 use mapfile::read_map;
 use maps::AnyMap;
+use std::fmt::Display;
 use std::{fs, io};
 use survey::{connections, free_cells};
 
@@ -19,13 +22,26 @@ fn main(rt: HostRuntime) -> anyhow::Result<()> {
 fn run(rt: &HostRuntime) -> anyhow::Result<()> {
     let list = fs::read(rt, "hall.list")?;
     let grid = fs::read(rt, "hall.grid")?;
-    tell_file(rt, "hall.list", list.as_slice())?;
-    carts::tell_list_carts(rt, &read_hall(rt, list.as_slice())?)?;
-    tell_file(rt, "hall.grid", grid.as_slice())?;
-    carts::tell_grid_carts(rt, &read_hall(rt, grid.as_slice())?)?;
+    tell_list_hall(rt, list.as_slice())?;
+    tell_grid_hall(rt, grid.as_slice())?;
     tell_damaged_list(rt, list.as_slice())?;
     tell_damaged_grid(rt, grid.as_slice())?;
     Ok(())
+}
+
+fn tell_list_hall(rt: &HostRuntime, bytes: &[u8]) -> anyhow::Result<()> {
+    tell_file(rt, "hall.list", bytes)?;
+    let map = read_hall(rt, bytes)?;
+    carts::tell_list_carts(rt, &map)?;
+    letters::tell_list_letters(rt, &map)?;
+    checks::tell_checks(rt, &map)
+}
+
+fn tell_grid_hall(rt: &HostRuntime, bytes: &[u8]) -> anyhow::Result<()> {
+    tell_file(rt, "hall.grid", bytes)?;
+    let map = read_hall(rt, bytes)?;
+    carts::tell_grid_carts(rt, &map)?;
+    letters::tell_grid_letters(rt, &map)
 }
 
 fn read_hall(rt: &HostRuntime, bytes: &[u8]) -> anyhow::Result<AnyMap> {
@@ -60,6 +76,14 @@ fn tell_neighbours(rt: &HostRuntime, map: &AnyMap, p: Place) -> io::Result<()> {
         print!(rt; " {q}")?;
     }
     println!(rt; "")
+}
+
+// The items on one line, each behind a space.
+pub fn tell_each<T: Display>(rt: &HostRuntime, items: &[T]) -> io::Result<()> {
+    for item in items {
+        print!(rt; " {item}")?;
+    }
+    Ok(())
 }
 
 // A copy with another byte at `at`, told under what was done to it.

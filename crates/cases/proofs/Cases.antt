@@ -10,4 +10,4 @@ use Rattle.motion.specs.Listed.{in_conflict}
 
 pub worked_cases : WorkedCases
 unfolding map_reading list_reading grid_reading founding joining in_conflict
-worked_cases = All-from_recursion Holds worked (refl, (refl, (refl, (refl, (refl, (refl, (refl, (refl, (refl, (refl, (refl, tt)))))))))))
+worked_cases = All-from_recursion Holds worked (refl, (refl, (refl, (refl, (refl, (refl, (refl, (refl, (refl, (refl, (refl, (refl, (refl, (refl, tt))))))))))))))

@@ -9,11 +9,14 @@ use Rattle.mapfile.specs.MapFiles.{map_reading}
 use Rattle.mapfile.specs.declared.fault.Fault.{Fault}
 use Rattle.motion.specs.Listed.{in_conflict}
 use Rattle.motion.specs.declared.ban.Ban.{Ban}
-use Rattle.motion.specs.declared.ban.Ban.TheVariants.{Late}
+use Rattle.motion.specs.declared.ban.Ban.TheVariants.{Late, Stand}
 use Rattle.motion.specs.declared.trip.Trip.{Trip}
 use Rattle.samples.specs.Floors.{line, small_floor}
 use Rattle.samples.specs.Trips.{trip}
 use Rattle.search.specs.Least.{least_length}
+use Rattle.splits.specs.Own.{own}
+use Rattle.splits.specs.Rules.{Sides}
+use Rattle.splits.specs.declared.refusal.SplitRefusal.TheVariants.{Unlawful}
 
 pub data Case : Type 0 where
   -- a map file comes to a hall or a fault
@@ -22,11 +25,14 @@ pub data Case : Type 0 where
   meeting : List ℕ → List ℕ → Bool → Case
   -- a cart's least length under bans, below a limit
   shortest : Floor → List Trip → List Ban → ℕ → ℕ → Option ℕ → Case
+  -- a letter with its operands gives two sides or a refusal
+  splitting : Floor → List Trip → List Ban → ℕ → List ℕ → Sides → Case
 
 abbrev pub Holds : Case → Type 0
 Holds (reading bytes outcome) = map_reading bytes ≡ outcome
 Holds (meeting ps qs conflict) = in_conflict ps qs ≡ conflict
 Holds (shortest f trips bans a limit length) = least_length f trips bans a limit ≡ length
+Holds (splitting f trips bans letter ops sides) = own.sides f trips bans letter ops ≡ sides
 
 abbrev pub readings : List Case
 readings =
@@ -48,8 +54,19 @@ abbrev pub lengths : List Case
 lengths =
     shortest (network_floor small_floor) (trip 4 4 ∷ []) (Late (record { 0 = 0 }) (record { 0 = 0 }) ∷ []) 0 10 (Some 2) ∷ []
 
+-- the carts go through the line, one each way, the first from p; the corridor is that from 1 by 2, three places long,
+-- and they are to be through by ticks m and n
+abbrev pub through : ℕ → ℕ → ℕ → Sides → Case
+through p m n = splitting (network_floor line) (trip p 5 ∷ trip 5 0 ∷ []) [] 75 (0 ∷ 1 ∷ 0 ∷ 1 ∷ 0 ∷ 2 ∷ 3 ∷ 0 ∷ m ∷ 0 ∷ n ∷ [])
+
+-- taken; the other cart could be through before tick 8; a cart that starts within the corridor
+abbrev pub splittings : List Case
+splittings =
+    through 0 7 7 (Ok (Stand (record { 0 = 0 }) (record { 0 = 4 }) (record { 0 = 0 }) (record { 0 = 7 }), Stand (record { 0 = 1 }) (record { 0 = 1 }) (record { 0 = 0 }) (record { 0 = 7 })))
+    ∷ through 0 8 7 (Err Unlawful) ∷ through 2 7 7 (Err Unlawful) ∷ []
+
 abbrev pub worked : List Case
-worked = readings ++ (meetings ++ lengths)
+worked = readings ++ (meetings ++ (lengths ++ splittings))
 
 abbrev pub WorkedCases : Type 0
 WorkedCases = All Holds worked

@@ -1,8 +1,9 @@
+// Least lengths, where a cart can stand, and sums, on the small floor.
+use crate::scene::Scene;
 use floor::{Cart, Place, Tick};
-use maps::ListMap;
-use motion::{Ban, Length, Trip};
+use motion::{Ban, Length};
 use samples::{small_floor, small_trips};
-use search::{Branch, Workspace};
+use search::Branch;
 use std::io;
 
 const CART: Cart = Cart(0);
@@ -10,26 +11,12 @@ const CART: Cart = Cart(0);
 const OTHER: Cart = Cart(1);
 
 pub fn run(rt: &HostRuntime) -> anyhow::Result<()> {
-    let mut scene = Scene {
-        rt,
-        work: Workspace::new(rt.alloc())?,
-        map: small_floor(rt.alloc())?,
-        trips: small_trips(),
-    };
+    let mut scene = Scene::new(rt, small_floor(rt.alloc())?, small_trips())?;
     scene.tell_arrivals()?;
     scene.tell_closures()?;
     scene.tell_stands()?;
     scene.tell_sums()?;
     Ok(())
-}
-
-// The small floor with its two carts, and where to tell of them.
-#[derive(Drop)]
-struct Scene<'a> {
-    rt: &'a HostRuntime,
-    work: Workspace,
-    map: ListMap,
-    trips: [Trip; 2],
 }
 
 impl Scene<'_> {

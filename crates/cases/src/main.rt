@@ -1,8 +1,10 @@
-// Runs worked cases of routes, conflicts and least lengths, and prints what comes of each.
+// Runs worked cases of routes, conflicts, least lengths and splits, and prints what comes of each.
 #![tactic(auto)]
 
 mod lengths;
 mod routes;
+mod scene;
+mod splitting;
 mod worked;
 
 use worked::worked_cases;
@@ -14,5 +16,6 @@ fn main(rt: HostRuntime) -> anyhow::Result<()> {
 fn run(rt: &HostRuntime) -> anyhow::Result<()> {
     println!(rt; "{} worked cases are proved", worked_cases())?;
     routes::run(rt)?;
-    lengths::run(rt)
+    lengths::run(rt)?;
+    splitting::run(rt)
 }

@@ -1,8 +1,9 @@
 // What each letter of a split gives on a hall.
+use crate::carts::grid_trips;
 use crate::tell_each;
 use maps::AnyMap;
 use motion::Trip;
-use samples::{small_trips, trip};
+use samples::small_trips;
 use search::{Branch, Workspace};
 use splits::{SplitRule, own_rules};
 use std::io;
@@ -28,7 +29,7 @@ pub fn tell_grid_letters(rt: &HostRuntime, map: &AnyMap) -> anyhow::Result<()> {
         (b'K', &[0, 1, 0, 0, 0, 5, 2, 0, 7, 0, 4]),
         (b'K', &[0, 1, 0, 0, 0, 5, 2, 0, 8, 0, 4]),
     ];
-    tell_letters(rt, map, &[trip(0, 18), trip(9, 5)], &splits)
+    tell_letters(rt, map, &grid_trips(), &splits)
 }
 
 // What letters with their operands give where nothing is banned.
@@ -66,6 +67,6 @@ fn tell_letter(
             println!(rt; "    left: {left}")?;
             println!(rt; "    right: {right}")
         }
-        Err(refusal) => println!(rt; ": refused {}", refusal.number()),
+        Err(refusal) => println!(rt; ": refused {} ({refusal})", refusal.number()),
     }
 }

@@ -1,10 +1,8 @@
 // Splits where nothing is banned, at the edges of what is allowed.
-use maps::ListMap;
-use motion::Trip;
+use crate::scene::Scene;
 use samples::{line, trip};
-use search::{Branch, Workspace};
+use search::Branch;
 use splits::{SplitRule, own_rules};
-use std::alloc::AllocError;
 use std::io;
 
 pub fn run(rt: &HostRuntime) -> anyhow::Result<()> {
@@ -15,28 +13,9 @@ pub fn run(rt: &HostRuntime) -> anyhow::Result<()> {
     tell_ends(rt)
 }
 
-// A floor with the trips of two carts, and where to tell what splits give on it.
-#[derive(Drop)]
-struct Scene<'a> {
-    rt: &'a HostRuntime,
-    work: Workspace,
-    map: ListMap,
-    trips: [Trip; 2],
-}
-
-impl<'a> Scene<'a> {
-    fn new(rt: &'a HostRuntime, map: ListMap, trips: [Trip; 2]) -> Result<Scene<'a>, AllocError> {
-        let work = Workspace::new(rt.alloc())?;
-        Ok(Scene {
-            rt,
-            work,
-            map,
-            trips,
-        })
-    }
-
+impl Scene<'_> {
     // What letters give where nothing is banned.
-    fn tell(&mut self, splits: &[(&str, u8, &[u8])]) -> io::Result<()> {
+    fn tell_splits(&mut self, splits: &[(&str, u8, &[u8])]) -> io::Result<()> {
         let branch = Branch {
             map: &self.map,
             trips: &self.trips,
@@ -45,7 +24,9 @@ impl<'a> Scene<'a> {
         for &(what, letter, operands) in splits {
             match own_rules().sides(&mut self.work, &branch, letter, operands) {
                 Ok((left, right)) => println!(self.rt; "{what}: {left}; or {right}")?,
-                Err(refusal) => println!(self.rt; "{what}: refused {}", refusal.number())?,
+                Err(refusal) => {
+                    println!(self.rt; "{what}: refused {} ({refusal})", refusal.number())?
+                }
             }
         }
         Ok(())
@@ -55,7 +36,7 @@ impl<'a> Scene<'a> {
     fn tell_passing(&mut self, corridors: &[(&str, [u8; 5])]) -> io::Result<()> {
         for &(what, [p, q, k, m, n]) in corridors {
             let operands = [0, 1, 0, p, 0, q, k, 0, m, 0, n];
-            self.tell(&[(what, b'K', &operands)])?;
+            self.tell_splits(&[(what, b'K', &operands)])?;
         }
         Ok(())
     }
@@ -65,7 +46,7 @@ impl<'a> Scene<'a> {
 fn tell_orders(rt: &HostRuntime) -> anyhow::Result<()> {
     let map = line(rt.alloc(), 6, &[])?;
     let mut scene = Scene::new(rt, map, [trip(0, 5), trip(5, 0)])?;
-    scene.tell(&[
+    scene.tell_splits(&[
         ("E, all wrong", b'E', &[0, 2, 0, 9, 0, 9, 255, 255]),
         (
             "E, place and tick wrong",
@@ -88,7 +69,7 @@ fn tell_orders(rt: &HostRuntime) -> anyhow::Result<()> {
 fn tell_ticks(rt: &HostRuntime) -> anyhow::Result<()> {
     let map = line(rt.alloc(), 6, &[])?;
     let mut scene = Scene::new(rt, map, [trip(0, 5), trip(5, 0)])?;
-    scene.tell(&[
+    scene.tell_splits(&[
         ("V at tick 4,000", b'V', &[0, 1, 0, 1, 15, 160]),
         ("V at tick 4,001", b'V', &[0, 1, 0, 1, 15, 161]),
         ("T at tick 4,000", b'T', &[0, 15, 160]),

@@ -81,7 +81,7 @@ fn tell_call(rt: &HostRuntime, call: Call) -> io::Result<()> {
 fn tell_answer(rt: &HostRuntime, answer: Result<(), Refusal>) -> io::Result<()> {
     match answer {
         Ok(()) => print!(rt; " taken;"),
-        Err(refusal) => print!(rt; " refused {};", refusal.number()),
+        Err(refusal) => print!(rt; " refused {} ({refusal});", refusal.number()),
     }
 }
 
