@@ -54,15 +54,6 @@ module _ (p : ℕ → Bool) (P : ℕ → Type 0) (each : (k : ℕ) → Decides (
 
 -- as a loop over the numbers finds it
 module _ (p : ℕ → Bool) where
-  pub every_below_more : (n : ℕ) → p n ≡ true → every_below p n ≡ true → every_below p (n + 1) ≡ true
-  every_below_more n here before = rw add-one (and_from _ _ here before)
-
-  pub some_below_more : (n : ℕ) → p n ≡ false → some_below p n ≡ false → some_below p (n + 1) ≡ false
-  some_below_more n here before = rw add-one (or_from _ _ here before)
-
-  pub every_below_fails : (k n : ℕ) → k < n → p k ≡ false → every_below p n ≡ false
-  every_below_fails k n lt fails = false_from_decides _ (decides_every_below p _ (λ i. decides_itself (p i)) n) (λ all. both_ways (p k) fails (all k lt))
-
   pub some_below_holds : (k n : ℕ) → k < n → p k ≡ true → some_below p n ≡ true
   some_below_holds k n lt holds = (decides_some_below p _ (λ i. decides_itself (p i)) n).1 (k, lt, holds)
 

@@ -23,15 +23,6 @@ module _ (xs : List ℕ) (i : ℕ) where
   pub neighbours_ended : None ≡ slice_get xs i → length xs ≤ i
   neighbours_ended h = grind (arith, slice_get-get_or xs i 0)
 
--- what it says on a lawful floor
-module _ (f : Floor) (law : Lawful f) (p i q : ℕ) (h : Some q ≡ slice_get (f.next p) i) where
-  pub neighbour_on_floor : q < f.count
-  neighbour_on_floor =
-      let listed = neighbour_listed (f.next p) i q h in (law.on_floor p q (record { at = i; within = listed.0; is = listed.1 })).1
-
-  pub neighbour_early : i < 8
-  neighbour_early = let listed = neighbour_listed (f.next p) i q h in let few = law.few p in omega arith
-
 pub decides_joined : (f : Floor) (p q : ℕ) → Decides (is_joined f p q) (Joined f p q)
 decides_joined f p q =
     Decides-like _ (joined_from_has f p q) (has_from_joined f p q) (Decides-contains _ q _ (decides_some _ _ (λ n. Decides-eqb n q) (f.next p)))

@@ -11,6 +11,5 @@ pub mod GridLayout
 pub mod GridsMade
 pub mod TextSteps
 pub mod RowSteps
-pub mod NumberSteps
 pub mod FaultAnswers
 pub mod MapFiles

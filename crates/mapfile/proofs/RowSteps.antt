@@ -76,6 +76,3 @@ module _ (all : Result (List Bool) Fault) (height count width : ℕ) (row : Curs
 
     pub rows_end : length row.bytes.now ≡ 0 → all ≡ Ok cells
     rows_end empty = last_read ∙ ap (after_cells cells) (at_drop_all (body 0 width width row.at) row.bytes.now 0 (omega arith)) ∙ ap Ok (append-nil cells)
-
-    pub rows_past : (length row.bytes.now ≡ 0 → ⊥) → all ≡ Err (fault Ragged row.at)
-    rows_past some = last_read ∙ ap (after_cells cells) (at_drop_more (body 0 width width row.at) row.bytes.now 0 0 (omega arith))
