@@ -26,11 +26,14 @@ impl<'a, M: FloorMap> CartSearch<'a, M> {
         }
     }
 
-    // Marks `q`, if the bans let the cart enter it from `p`.
+    // Marks `q`, if the bans let the cart enter it from `p`. A place that is marked already asks no ban.
     fn enter(&self, t: Tick, p: Place, q: Place, next: &mut [bool])
         requires { q.0 < length next.old }
         ensures { (k : ℕ) → marked next.new k ≡ ((q.0 == k && can_enter self.now.trips.now (listed self.now.bans) self.now.cart t.0 p.0 k) || marked next.old k) }
     {
+        if next[usize::from(q)] {
+            return;
+        }
         if self.can_enter(t, p, q) {
             next[usize::from(q)] = true;
         }
