@@ -1,12 +1,9 @@
 -- A grid that is read is within its limits, so that a map is made of it.
-use Rattle.std.proofs.Common.{◌≡◌, ℕ, Bool, List, Some, Ok, Err, Result, IsOk, sym, refl, ap, ◌∙◌}
+use Rattle.std.proofs.Common.{◌≡◌, ℕ, Bool, List, Ok, Err, sym, ap, ◌∙◌}
 use Rattle.floor.proofs.Chains.{ok_no_err, ok_same}
 use Rattle.floor.specs.Checks.{◌>>=◌}
 use Rattle.maps.proofs.Gridding.{gridding_is_sized}
-use Rattle.maps.specs.GridMaps.{grid_of}
 use Rattle.maps.specs.Grids.{Grid, gridding}
-use Rattle.maps.specs.Made.{Made}
-use Rattle.maps.specs.declared.grid.GridMap.{GridMap}
 use Rattle.maps.specs.declared.refusal.MapRefusal.{MapRefusal}
 use Rattle.mapfile.proofs.GridLayout.{grid_read_exactly}
 use Rattle.mapfile.specs.GridFiles.{body, grid_reading}
@@ -24,9 +21,8 @@ module _ (bytes : List ℕ) (h : Heading) (headed : grid_reading bytes ≡ behin
     made : gridding h.height h.width free ≡ Ok grid
     made = (gridding_is_sized grid).1 ((grid_read_exactly bytes grid).0 read).0
 
-    pub never_refused : (r : Result GridMap MapRefusal) → Made grid_of Some (gridding h.height h.width free) r → IsOk r
-    never_refused (Ok m) is = refl
-    never_refused (Err e) is = absurd (ok_no_err (sym made ∙ is))
+    pub never_refused : (e : MapRefusal) → gridding h.height h.width free ≡ Err e → ⊥
+    never_refused e is = ok_no_err (sym made ∙ is)
 
     pub read_as_made : (g : Grid) → gridding h.height h.width free ≡ Ok g → grid_reading bytes ≡ Ok g
     read_as_made g is = read ∙ ap Ok (ok_same (sym made ∙ is))

@@ -7,7 +7,7 @@ ghost use Rattle.mapfile.specs.GridReads.{ReadsCell, ReadsRow, behind_heading};
 
 use crate::cursor::Cursor;
 use crate::fault::{Fault, ReadError};
-use maps::{GridMap, MapRefusal, Sign, read_sign};
+use maps::{GridMap, MapError, MapRefusal, Sign, read_sign};
 use std::alloc::Global;
 
 // A heading that was read, and the rows behind it.
@@ -19,6 +19,7 @@ pub struct Heading<'a> {
 }
 
 // A map in the grid layout.
+#[tactic(auto, using(crate::proofs::GridLayout::grid_fault_is_first))]
 pub fn read_grid(heap: Global, bytes: &[u8]) -> Result<GridMap, ReadError>
     ensures reads { Answers grid_of (grid_reading bytes.now) result }
     ensures exactly { GridReadExactly bytes.now }
@@ -26,8 +27,12 @@ pub fn read_grid(heap: Global, bytes: &[u8]) -> Result<GridMap, ReadError>
 {
     let heading = read_heading(bytes)?;
     let free = read_cells(heap, heading)?;
-    // never refused: there are as many cells as the heading says
-    Ok(GridMap::new(heading.height, heading.width, free).unwrap())
+    match GridMap::new(heap, heading.height, heading.width, free) {
+        Ok(map) => Ok(map),
+        Err(MapError::NoMemory) => Err(ReadError::NoMemory),
+        // there are as many cells as the heading says
+        Err(MapError::Refused(_)) => unreachable!(),
+    }
 }
 
 #[tactic(auto, unfolding(crate::specs::GridFiles::grid_reading))]

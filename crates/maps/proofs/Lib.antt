@@ -2,3 +2,4 @@ pub mod Members
 pub mod Founding
 pub mod Gridding
 pub mod Sides
+pub mod GridRows

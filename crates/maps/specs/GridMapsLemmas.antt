@@ -1,9 +1,14 @@
 -- What the fields of a grid map give.
 use Rattle.std.proofs.Common.{arith}
 use Rattle.maps.specs.Grids.{Sized}
+use Rattle.maps.specs.GridCells.{grid_in}
 use Rattle.maps.specs.GridMaps.{grid_of}
 use Rattle.maps.specs.declared.grid.GridMap.{GridMap}
+use Rattle.maps.specs.declared.grid.cells.Cells.{Cells}
+
+pub cells_sized : (cells : Cells) → Sized (grid_in cells)
+cells_sized cells =
+    record { some_rows = cells.rows.0; most_rows = cells.rows.1; some_columns = cells.columns.0; most_columns = cells.columns.1; filled = omega arith }
 
 pub map_sized : (m : GridMap) → Sized (grid_of m)
-map_sized m =
-    record { some_rows = m.rows.0; most_rows = m.rows.1; some_columns = m.columns.0; most_columns = m.columns.1; filled = omega arith }
+map_sized m = cells_sized m.cells

@@ -6,6 +6,7 @@ pub mod Networks
 pub mod ListMaps
 pub mod Signs
 pub mod Grids
+pub mod GridCells
 pub mod GridMaps
 pub mod AnyMaps
 pub mod GridMapsLemmas

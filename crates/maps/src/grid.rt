@@ -1,14 +1,20 @@
-ghost use Rattle.std.specs.Prelude.{◌≡◌, ◌*◌, ◌≤◌};
+ghost use Rattle.std.specs.Prelude.{◌≡◌, ℕ};
+ghost use Rattle.maps.specs.Grids.{around};
+ghost use Rattle.maps.specs.GridCells.{grid_in};
+ghost use Rattle.maps.specs.Tables.{row_of};
 
+use crate::grid::cells::Cells;
+use arrayvec::ArrayVec;
+use floor::Place;
+
+mod cells;
 pub mod methods;
 
-// A floor of free and blocked cells, row by row.
+// A floor of free and blocked cells. The neighbours of each place are worked out when it is made, since a search asks
+// for them over and over.
 #[derive(Drop)]
 pub struct GridMap {
-    height: usize,
-    width: usize,
-    free: Vec<bool>,
-    ghost rows: { (1 ≤ height) × (height ≤ 32) },
-    ghost columns: { (1 ≤ width) × (width ≤ 32) },
-    ghost filled: { free.len ≡ height * width },
+    cells: Cells,
+    rows: Vec<ArrayVec<Place, 4>>,
+    ghost tied: { (p : ℕ) → row_of rows.items p ≡ around (grid_in cells) p },
 }

@@ -5,6 +5,7 @@ mod connection;
 mod grid;
 mod list;
 mod refusal;
+mod rows;
 mod sign;
 
 pub use any::AnyMap;

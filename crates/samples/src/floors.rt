@@ -1,5 +1,6 @@
 ghost use Rattle.std.specs.Prelude.{◌≡◌, [], Ok};
-ghost use Rattle.maps.specs.ListMaps.{network_of, refusal_of};
+ghost use Rattle.maps.specs.ListMaps.{network_of};
+ghost use Rattle.maps.specs.Refusals.{refusal_of};
 ghost use Rattle.maps.specs.Made.{Made};
 ghost use Rattle.samples.specs.Floors.{between, connections_of, joining_all, line, lining, small_floor};
 

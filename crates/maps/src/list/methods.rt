@@ -1,13 +1,15 @@
 ghost use Rattle.std.specs.Prelude.{◌≡◌, IfErr, OnOk};
-ghost use Rattle.maps.specs.ListMaps.{network_of, refusal_of, Changed};
+ghost use Rattle.maps.specs.ListMaps.{network_of, Changed};
 ghost use Rattle.maps.specs.Made.{Made};
 ghost use Rattle.maps.specs.Networks.{network_floor, founding, joining, Proper, FoundingIsProper, JoiningIsProper, NeighboursAreLinked, partners, with_connection};
+ghost use Rattle.maps.specs.Refusals.{refusal_of};
 ghost use Rattle.maps.specs.Tables.{numbers};
 ghost use Rattle.maps.specs.ListMapsLemmas.{proper_map};
 
 use crate::connection::Connection;
 use crate::list::ListMap;
 use crate::refusal::{MapError, MapRefusal};
+use crate::rows::row_at;
 use arrayvec::ArrayVec;
 use floor::{FloorMap, Place};
 use std::alloc::Global;
@@ -80,9 +82,7 @@ impl ListMap {
     fn row(&self, p: Place) -> &[Place]
         ensures { numbers result.now ≡ partners p.0 (network_of self.now).connections }
     {
-        self.rows
-            .get(usize::from(p))
-            .map_or(&[], |row| row.as_slice())
+        row_at(&self.rows, p)
     }
 }
 
