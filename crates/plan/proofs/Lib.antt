@@ -1,0 +1,10 @@
+pub mod Found
+pub mod Passing
+pub mod Pairs
+pub mod HeadingFinds
+pub mod CallsFind
+pub mod Trips
+pub mod Written
+pub mod PlanFinds
+pub mod Numbers
+pub mod Promising

@@ -1,0 +1,88 @@
+-- What holds of every plan file.
+use Rattle.std.proofs.Common.{◌≡◌, ℕ, ◌≤◌, nat_le, ◌==◌, List, Ok, Err, Result, refl, ap, ◌∙◌, sym, subst, arith}
+use Rattle.std.proofs.lemmas.Bool.{cases_Bool}
+use Rattle.std.proofs.lemmas.List.{nil_from_length}
+use Rattle.floor.specs.Floor.{Floor, Lawful}
+use Rattle.floor.proofs.Chains.{ok_same}
+use Rattle.mapfile.specs.ListLayout.{Bytes}
+use Rattle.splits.specs.Rules.{Rules, LawfulRules}
+use Rattle.plan.specs.Layout.{Settles}
+use Rattle.plan.specs.Promises.{PlanOf, PlanPromises, ProvesBound, ProvesLeast, number_in}
+use Rattle.plan.specs.Reading.{opening}
+use Rattle.plan.proofs.Numbers.{standing_small}
+use Rattle.plan.proofs.PlanFinds.{plan_fault_is_first, plan_read_exactly}
+use Rattle.tally.specs.CallAnswers.{after_all}
+use Rattle.tally.specs.Laws.{Holds}
+use Rattle.tally.specs.Openings.{Opening, opened}
+use Rattle.tally.specs.Standings.{standing, verdict_of}
+use Rattle.tally.specs.declared.refusal.Refusal.{Refusal}
+use Rattle.tally.specs.Tallies.{Tally, at_start}
+use Rattle.tally.specs.declared.standing.Standing.{Standing}
+use Rattle.tally.specs.declared.standing.Verdict.TheVariants.{Least}
+use Rattle.tally.proofs.Holding.{always_holds}
+use Rattle.tally.proofs.Honest.{honest_succeeds}
+
+-- a verdict of least names the claim
+least_claims : (answer : Result (Unit {0}) Refusal) (branches missing sum claim n : ℕ) → verdict_of answer branches missing sum claim ≡ Least n → claim ≡ n
+least_claims (Err e) branches missing sum claim n is = grind (arith, is)
+least_claims (Ok _) branches missing sum claim n is = grind (arith, is, cases_Bool (nat_le 1 branches), cases_Bool (nat_le 1 missing), cases_Bool (sum == claim))
+
+module _ (f : Floor) (r : Rules) (floor : Lawful f) (rules : LawfulRules r) (bytes : List ℕ) (low : Bytes bytes) where
+  -- what holds of the tally that a plan comes to
+  module _ (s : Standing) (settles : Settles f r bytes s) where
+    o : Opening
+    o = opening f r settles.claim settles.trips
+
+    t : Tally
+    t = after_all o at_start settles.calls
+
+    holds : Holds o t
+    unfolding o t
+    holds = always_holds o (record { floor = floor; rules = rules }) t (settles.calls, refl)
+
+    stands : standing o t ≡ s
+    unfolding o t
+    stands = ok_same settles.settled
+
+    plan : PlanOf r bytes settles.claim
+    plan = record { trips = settles.trips; calls = settles.calls; text = settles.text }
+
+  proves_least : (s : Standing) (n : ℕ) → Settles f r bytes s → s.verdict ≡ Least n → ProvesLeast f r bytes n
+  unfolding o t plan
+  proves_least s n settles least =
+      let verdict : (standing (o s settles) (t s settles)).verdict ≡ Least n = ap (λ u. u.verdict) (stands s settles) ∙ least in
+      let claim = least_claims (opened (o s settles)) _ _ _ _ n verdict in
+      subst (ProvesLeast f r bytes) claim
+      (record {
+        plan = plan s settles;
+        complete = (holds s settles).least_exactly.0 (verdict ∙ ap Least (sym claim));
+        shown_least = (holds s settles).least_shown (verdict ∙ ap Least (sym claim));
+      })
+
+  proves_bound : (s : Standing) → Settles f r bytes s → s.branches ≡ 0 → ProvesBound f r bytes
+  unfolding o t plan
+  proves_bound s settles none = record {
+    claim = settles.claim;
+    plan = plan s settles;
+    no_rival = (holds s settles).none_open_no_rival (nil_from_length (t s settles).branches (ap (λ u. u.branches) (stands s settles) ∙ none));
+  }
+
+  number_small : (s : Standing) → Settles f r bytes s → number_in s.verdict ≤ 4080
+  unfolding o t
+  number_small s settles =
+      subst (λ u. number_in u.verdict ≤ 4080) (stands s settles)
+      (standing_small (o s settles) (record { floor = floor; rules = rules }) settles.all_taken.opens (t s settles) (settles.calls, refl))
+
+  pub plan_promises : PlanPromises f r bytes
+  plan_promises = record {
+    read_exactly = plan_read_exactly f r rules bytes low;
+    fault_is_first = plan_fault_is_first f r rules bytes low;
+    least_is_least = λ s n is least. proves_least s n ((plan_read_exactly f r rules bytes low s).0 is) least;
+    none_open_is_bound = λ s is none. proves_bound s ((plan_read_exactly f r rules bytes low s).0 is) none;
+    number_is_small = λ s is. number_small s ((plan_read_exactly f r rules bytes low s).0 is);
+    honest_plans_succeed = λ claim trips openable plan calls of_plan text.
+        let o = opening f r claim trips in
+        let succeeds = honest_succeeds o (record { floor = floor; rules = rules }) openable plan calls of_plan in
+        let s = standing o (after_all o at_start calls) in
+        (s, (plan_read_exactly f r rules bytes low s).1 (record { claim = claim; trips = trips; calls = calls; text = text; all_taken = record { opens = openable; taken = succeeds.all_taken }; settled = refl }), succeeds.settles_least);
+  }

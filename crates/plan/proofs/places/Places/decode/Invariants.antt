@@ -1,0 +1,8 @@
+use Rattle.std.proofs.Common.{◌≡◌, take}
+use Rattle.motion.specs.Listed.{numbers}
+use Rattle.plan.proofs.Pairs.{numbers_of}
+use Rattle.plan.proofs.places.Places.decode.Given as goal
+
+-- one place for each pair so far
+abbrev pub invariant-loop-pair : goal.invariant-loop-pair
+invariant-loop-pair l = numbers l.places.items ≡ numbers_of (take l.pair-index l.pairs)

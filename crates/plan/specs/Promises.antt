@@ -1,0 +1,63 @@
+-- What holds of every plan file.
+use Rattle.std.specs.Prelude.{◌≡◌, ℕ, ◌≤◌, List, Ok}
+use Rattle.floor.specs.Floor.{Floor}
+use Rattle.motion.specs.declared.trip.Trip.{Trip}
+use Rattle.splits.specs.Rules.{Rules}
+use Rattle.plan.specs.FirstFault.{PlanFaultIsFirst}
+use Rattle.plan.specs.Layout.{PlanReadExactly, PlanText}
+use Rattle.plan.specs.Reading.{opening, plan_reading}
+use Rattle.tally.specs.CallAnswers.{after_all}
+use Rattle.tally.specs.Calls.{Call}
+use Rattle.tally.specs.Laws.{Complete, NoRival, ShownLeast}
+use Rattle.tally.specs.Openings.{Openable}
+use Rattle.tally.specs.Plans.{CallsOf, HonestPlan}
+use Rattle.tally.specs.Refusals.{number_of as refusal_number}
+use Rattle.tally.specs.Tallies.{at_start}
+use Rattle.tally.specs.declared.standing.Standing.{Standing}
+use Rattle.tally.specs.declared.standing.Verdict.{Verdict}
+use Rattle.tally.specs.declared.standing.Verdict.TheVariants.{Barred, Open, Unshown, OtherSum, Least}
+
+-- the bytes are a plan that claims n for these trips, and its calls
+pub record PlanOf (r : Rules) (bytes : List ℕ) (n : ℕ) : Type 0 where
+  pub trips : List Trip
+  pub calls : List Call
+  pub text : PlanText r n trips calls bytes
+
+-- the plan shows a route for every cart, these routes are a conflict-free set on the floor that sums to n, and no other
+-- set sums to less
+pub record ProvesLeast (f : Floor) (r : Rules) (bytes : List ℕ) (n : ℕ) : Type 0 where
+  pub plan : PlanOf r bytes n
+  pub complete : let o = opening f r n plan.trips in Complete o (after_all o at_start plan.calls)
+  pub shown_least : let o = opening f r n plan.trips in ShownLeast o (after_all o at_start plan.calls)
+
+-- no conflict-free set of routes on the floor for the plan's carts sums to less than its claim
+pub record ProvesBound (f : Floor) (r : Rules) (bytes : List ℕ) : Type 0 where
+  pub claim : ℕ
+  pub plan : PlanOf r bytes claim
+  pub no_rival : NoRival (opening f r claim plan.trips)
+
+-- the number behind a verdict's word
+abbrev pub number_in : Verdict → ℕ
+number_in (Barred e) = refusal_number e
+number_in (Open branches) = branches
+number_in (Unshown carts) = carts
+number_in (OtherSum sum) = sum
+number_in (Least claim) = claim
+
+-- What holds of the bytes of a plan, whatever they are.
+pub record PlanPromises (f : Floor) (r : Rules) (bytes : List ℕ) : Type 0 where
+  -- It comes to a standing exactly when it is laid out as a plan whose calls are all taken, and then it is that run's
+  -- settlement.
+  pub read_exactly : PlanReadExactly f r bytes
+  -- Else its fault is the first, and stands where it says.
+  pub fault_is_first : PlanFaultIsFirst f r bytes
+  -- A plan that settles as `least n` shows a least set, and the least sum is n.
+  pub least_is_least : (s : Standing) (n : ℕ) → plan_reading f r bytes ≡ Ok s → s.verdict ≡ Least n → ProvesLeast f r bytes n
+  -- A plan that leaves no branch open proves its claim as a lower bound, whatever routes it shows.
+  pub none_open_is_bound : (s : Standing) → plan_reading f r bytes ≡ Ok s → s.branches ≡ 0 → ProvesBound f r bytes
+  -- The calls of an honest tree within the limits, written left side first with its routes anywhere between, settle as
+  -- least.
+  pub honest_plans_succeed : (claim : ℕ) (trips : List Trip) → Openable (opening f r claim trips) → (plan : HonestPlan (opening f r claim trips))
+      → (calls : List Call) → CallsOf plan calls → PlanText r claim trips calls bytes → (s : Standing) × (plan_reading f r bytes ≡ Ok s) × (s.verdict ≡ Least claim)
+  -- The number that a plan settles with is small.
+  pub number_is_small : (s : Standing) → plan_reading f r bytes ≡ Ok s → number_in s.verdict ≤ 4080
