@@ -4,8 +4,8 @@ use Rattle.std.proofs.lemmas.Iterator.Consumers.{YieldsList-from_filter, count_f
 use Rattle.maps.specs.GridMaps.{grid_of}
 use Rattle.maps.specs.GridMapsLemmas.{map_sized}
 use Rattle.maps.specs.Grids.{free_at}
-use Rattle.account.proofs.Free.{free_cells}
-use Rattle.account.proofs.survey.free_cells.Goals as goal
+use Rattle.halls.proofs.Free.{free_cells}
+use Rattle.halls.proofs.survey.free_cells.Goals as goal
 
 pub returns : goal.returns
 returns c =

@@ -1,8 +1,8 @@
 use Rattle.std.proofs.Common.{rules, ◌/◌, ◌^◌, length, ap, ◌∙◌, arith}
 use Rattle.std.proofs.lemmas.Iterator.{YieldsList-from_map, YieldsList-from_range}
 use Rattle.std.proofs.lemmas.Iterator.Consumers.{sum_from_yields_List, fits_from_yields_list}
-use Rattle.account.proofs.Degrees.{degrees_most, degrees_sum}
-use Rattle.account.proofs.survey.connections.Goals as goal
+use Rattle.halls.proofs.Degrees.{degrees_most, degrees_sum}
+use Rattle.halls.proofs.survey.connections.Goals as goal
 
 pub sum-ends-requires-clause-fits : goal.sum-ends-requires-clause-fits
 sum-ends-requires-clause-fits g c =

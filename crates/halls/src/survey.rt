@@ -1,5 +1,5 @@
 ghost use Rattle.std.specs.Prelude.{◌≡◌, ◌/◌, count_by};
-ghost use Rattle.account.specs.Degrees.{degrees};
+ghost use Rattle.halls.specs.Degrees.{degrees};
 ghost use Rattle.maps.specs.GridMaps.{grid_of};
 
 use floor::{FloorMap, Place};

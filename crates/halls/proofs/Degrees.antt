@@ -3,7 +3,7 @@ use Rattle.std.proofs.Common.{◌≡◌, ℕ, zero, suc, ◌+◌, ◌*◌, ◌�
 use Rattle.std.specs.List.{range_with_len}
 use Rattle.std.proofs.lemmas.List.FromFn.{sum_by-map-range_with_len_more}
 use Rattle.floor.specs.Floor.{Floor, Lawful}
-use Rattle.account.specs.Degrees.{degrees}
+use Rattle.halls.specs.Degrees.{degrees}
 
 pub degrees_sum : (f : Floor) (n : ℕ) → sum (map (λ p. length (f.next p)) (range_with_len 0 n)) ≡ degrees f n
 degrees_sum f zero = refl
