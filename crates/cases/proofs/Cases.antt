@@ -6,8 +6,14 @@ use Rattle.maps.specs.Networks.{founding, joining}
 use Rattle.mapfile.specs.GridFiles.{grid_reading}
 use Rattle.mapfile.specs.ListFiles.{list_reading}
 use Rattle.mapfile.specs.MapFiles.{map_reading}
-use Rattle.motion.specs.Listed.{in_conflict}
+use Rattle.motion.specs.Listed.{in_conflict, route_check}
+use Rattle.plan.specs.Commands.{commands}
+use Rattle.plan.specs.Headings.{heading}
+use Rattle.plan.specs.Reading.{plan_reading}
+use Rattle.report.specs.Files.{files_reading}
+use Rattle.tally.specs.CallAnswers.{closing, showing, splitting}
+use Rattle.tally.specs.Openings.{opened}
 
 pub worked_cases : WorkedCases
-unfolding map_reading list_reading grid_reading founding joining in_conflict
-worked_cases = All-from_recursion Holds worked (refl, (refl, (refl, (refl, (refl, (refl, (refl, (refl, (refl, (refl, (refl, (refl, (refl, (refl, tt))))))))))))))
+unfolding map_reading list_reading grid_reading founding joining in_conflict route_check files_reading plan_reading heading commands opened showing splitting closing
+worked_cases = All-from_recursion Holds worked (refl, (refl, (refl, (refl, (refl, (refl, (refl, (refl, (refl, (refl, (refl, (refl, (refl, (refl, (refl, (refl, (refl, (refl, (refl, tt)))))))))))))))))))

@@ -11,12 +11,20 @@ use Rattle.motion.specs.Listed.{in_conflict}
 use Rattle.motion.specs.declared.ban.Ban.{Ban}
 use Rattle.motion.specs.declared.ban.Ban.TheVariants.{Late, Stand}
 use Rattle.motion.specs.declared.trip.Trip.{Trip}
+use Rattle.plan.specs.Faults.{call_fault}
+use Rattle.report.specs.Files.{files_reading}
+use Rattle.report.specs.declared.fault.Fault.{Fault as FileFault}
+use Rattle.report.specs.declared.fault.Fault.TheVariants.{Plan as InPlan}
 use Rattle.samples.specs.Floors.{line, small_floor}
 use Rattle.samples.specs.Trips.{trip}
 use Rattle.search.specs.Least.{least_length}
+use Rattle.std.specs.Result.{result_map_both}
 use Rattle.splits.specs.Own.{own}
 use Rattle.splits.specs.Rules.{Sides}
 use Rattle.splits.specs.declared.refusal.SplitRefusal.TheVariants.{Unlawful}
+use Rattle.tally.specs.declared.refusal.Refusal.TheVariants.{CheaperSet}
+use Rattle.tally.specs.declared.standing.Verdict.{Verdict}
+use Rattle.tally.specs.declared.standing.Verdict.TheVariants.{Open, Least}
 
 pub data Case : Type 0 where
   -- a map file comes to a hall or a fault
@@ -27,16 +35,23 @@ pub data Case : Type 0 where
   shortest : Floor → List Trip → List Ban → ℕ → ℕ → Option ℕ → Case
   -- a letter with its operands gives two sides or a refusal
   splitting : Floor → List Trip → List Ban → ℕ → List ℕ → Sides → Case
+  -- a map file and a plan file come to a verdict or a fault
+  settling : List ℕ → List ℕ → Result Verdict FileFault → Case
 
 abbrev pub Holds : Case → Type 0
 Holds (reading bytes outcome) = map_reading bytes ≡ outcome
 Holds (meeting ps qs conflict) = in_conflict ps qs ≡ conflict
 Holds (shortest f trips bans a limit length) = least_length f trips bans a limit ≡ length
 Holds (splitting f trips bans letter ops sides) = own.sides f trips bans letter ops ≡ sides
+Holds (settling map plan outcome) = result_map_both (λ s. s.verdict) (λ f. f) (files_reading map plan) ≡ outcome
+
+-- the small floor's map
+abbrev pub small_map : List ℕ
+small_map = 80 ∷ 0 ∷ 5 ∷ 87 ∷ 0 ∷ 0 ∷ 0 ∷ 1 ∷ 87 ∷ 0 ∷ 1 ∷ 0 ∷ 2 ∷ 87 ∷ 0 ∷ 2 ∷ 0 ∷ 3 ∷ 87 ∷ 0 ∷ 2 ∷ 0 ∷ 4 ∷ []
 
 abbrev pub readings : List Case
 readings =
-    reading (80 ∷ 0 ∷ 5 ∷ 87 ∷ 0 ∷ 0 ∷ 0 ∷ 1 ∷ 87 ∷ 0 ∷ 1 ∷ 0 ∷ 2 ∷ 87 ∷ 0 ∷ 2 ∷ 0 ∷ 3 ∷ 87 ∷ 0 ∷ 2 ∷ 0 ∷ 4 ∷ []) (Ok (listed small_floor))
+    reading small_map (Ok (listed small_floor))
     ∷ reading (80 ∷ 0 ∷ 6 ∷ 87 ∷ 0 ∷ 0 ∷ 0 ∷ 1 ∷ 87 ∷ 0 ∷ 1 ∷ 0 ∷ 2 ∷ 87 ∷ 0 ∷ 2 ∷ 0 ∷ 3 ∷ 87 ∷ 0 ∷ 3 ∷ 0 ∷ 4 ∷ 87 ∷ 0 ∷ 4 ∷ 0 ∷ 5 ∷ []) (Ok (listed line))
     ∷ reading (codes "type octile\nheight 2\nwidth 3\nmap\n.@.\n...\n") (Ok (gridded (record { height = 2; width = 3; free = true ∷ false ∷ true ∷ true ∷ true ∷ true ∷ [] })))
     ∷ reading [] (Err (fault Headless 0)) ∷ reading (80 ∷ 0 ∷ 2 ∷ 87 ∷ 0 ∷ 0 ∷ 0 ∷ 2 ∷ []) (Err (fault NoPlace 3))
@@ -65,8 +80,26 @@ splittings =
     through 0 7 7 (Ok (Stand (record { 0 = 0 }) (record { 0 = 4 }) (record { 0 = 0 }) (record { 0 = 7 }), Stand (record { 0 = 1 }) (record { 0 = 1 }) (record { 0 = 0 }) (record { 0 = 7 })))
     ∷ through 0 8 7 (Err Unlawful) ∷ through 2 7 7 (Err Unlawful) ∷ []
 
+-- its plan's heading and routes: a claim of 6; cart 0 from 0 to 3, and cart 1 from 4 to 2, which waits until it has passed
+abbrev pub small_front : List ℕ
+small_front =
+    79 ∷ 0 ∷ 6 ∷ 2 ∷ 67 ∷ 0 ∷ 0 ∷ 0 ∷ 3 ∷ 67 ∷ 0 ∷ 4 ∷ 0 ∷ 2 ∷ 82 ∷ 0 ∷ 3 ∷ 0 ∷ 0 ∷ 0 ∷ 1 ∷ 0 ∷ 2 ∷ 0 ∷ 3 ∷ 82 ∷ 1 ∷ 3 ∷ 0 ∷ 4 ∷ 0 ∷ 4 ∷ 0 ∷ 4 ∷ 0 ∷ 2 ∷ []
+
+-- split on whether cart 1 is home by tick t
+abbrev pub by_tick : ℕ → List ℕ
+by_tick t = 84 ∷ 1 ∷ 0 ∷ t ∷ []
+
+-- the whole plan; split at another tick; without the split; with one closing of two; a cart that stays at place 3
+abbrev pub settlings : List Case
+settlings =
+    settling small_map (small_front ++ (by_tick 2 ++ (88 ∷ 88 ∷ 90 ∷ []))) (Ok (Least 6))
+    ∷ settling small_map (small_front ++ (by_tick 1 ++ (88 ∷ 88 ∷ 90 ∷ []))) (Err (InPlan (call_fault CheaperSet 40)))
+    ∷ settling small_map (small_front ++ (88 ∷ 88 ∷ 90 ∷ [])) (Err (InPlan (call_fault CheaperSet 36)))
+    ∷ settling small_map (small_front ++ (by_tick 2 ++ (88 ∷ 90 ∷ []))) (Ok (Open 1))
+    ∷ settling small_map (79 ∷ 0 ∷ 0 ∷ 1 ∷ 67 ∷ 0 ∷ 3 ∷ 0 ∷ 3 ∷ 82 ∷ 0 ∷ 0 ∷ 0 ∷ 3 ∷ 88 ∷ 90 ∷ []) (Ok (Least 0)) ∷ []
+
 abbrev pub worked : List Case
-worked = readings ++ (meetings ++ (lengths ++ splittings))
+worked = readings ++ (meetings ++ (lengths ++ (splittings ++ settlings)))
 
 abbrev pub WorkedCases : Type 0
 WorkedCases = All Holds worked

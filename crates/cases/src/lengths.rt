@@ -2,7 +2,7 @@
 use crate::scene::Scene;
 use floor::{Cart, Place, Tick};
 use motion::{Ban, Length};
-use samples::{small_floor, small_trips};
+use samples::{small_floor, small_trips, trip};
 use search::Branch;
 use std::io;
 
@@ -16,16 +16,14 @@ pub fn run(rt: &HostRuntime) -> anyhow::Result<()> {
     scene.tell_closures()?;
     scene.tell_stands()?;
     scene.tell_sums()?;
+    let mut home = Scene::new(rt, small_floor(rt.alloc())?, [trip(4, 4), trip(0, 3)])?;
+    home.tell_least("from 4 to 4, late 0", CART, 10, &[late(0)])?;
     Ok(())
 }
 
 impl Scene<'_> {
     // The way from 0 to 3 takes three steps.
     fn tell_arrivals(&mut self) -> io::Result<()> {
-        let late = Ban::Late {
-            cart: CART,
-            tick: Tick(4000),
-        };
         self.tell_least("no bans", CART, 10, &[])?;
         self.tell_least("no bans, searched below 3", CART, 3, &[])?;
         self.tell_least("a cart that is not there", Cart(2), 10, &[])?;
@@ -39,7 +37,7 @@ impl Scene<'_> {
                 stand(3, 4000),
             ),
             ("the same, searched further", 4002, stand(3, 4000)),
-            ("late 4,000", 4002, late),
+            ("late 4,000", 4002, late(4000)),
         ] {
             self.tell_least(what, CART, limit, &[ban])?;
         }
@@ -109,6 +107,13 @@ impl Scene<'_> {
 
 fn stand(place: u16, tick: u16) -> Ban {
     Ban::stand_at(CART, Place(place), Tick(tick))
+}
+
+fn late(tick: u16) -> Ban {
+    Ban::Late {
+        cart: CART,
+        tick: Tick(tick),
+    }
 }
 
 fn by(cart: Cart, tick: u16) -> Ban {

@@ -1,7 +1,8 @@
-// Runs worked cases of routes, conflicts, least lengths and splits, and prints what comes of each.
+// Runs worked cases of routes, conflicts, least lengths, splits and whole plans, and prints what comes of each.
 #![tactic(auto)]
 
 mod lengths;
+mod plans;
 mod routes;
 mod scene;
 mod splitting;
@@ -17,5 +18,6 @@ fn run(rt: &HostRuntime) -> anyhow::Result<()> {
     println!(rt; "{} worked cases are proved", worked_cases())?;
     routes::run(rt)?;
     lengths::run(rt)?;
-    splitting::run(rt)
+    splitting::run(rt)?;
+    plans::run(rt)
 }

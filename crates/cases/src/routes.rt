@@ -71,7 +71,18 @@ fn waiting(heap: Global, p: Place, ticks: usize, next: Place) -> Result<Vec<Plac
 }
 
 fn tell_conflicts(rt: &HostRuntime) -> io::Result<()> {
-    let cases: [(&str, &[Place], &[Place]); 4] = [
+    let cases: [(&str, &[Place], &[Place]); 7] = [
+        (
+            "0 1 2 and 1 2 3",
+            &[Place(0), Place(1), Place(2)],
+            &[Place(1), Place(2), Place(3)],
+        ),
+        ("0 1 and 1 0", &[Place(0), Place(1)], &[Place(1), Place(0)]),
+        (
+            "0 1 2 3 and 4 2",
+            &[Place(0), Place(1), Place(2), Place(3)],
+            &[Place(4), Place(2)],
+        ),
         ("resting at two places", &[Place(0)], &[Place(1)]),
         ("resting at one place", &[Place(0)], &[Place(0)]),
         (
