@@ -27,7 +27,7 @@ fn standing_bytes(standing: Standing) -> [u8; 8]
     [kind_of(standing.verdict), high, low, 0, 0, 0, 0, 0]
 }
 
-// The outcome where they have a fault. An offset is at most the file's length, so the remainder takes nothing from it.
+// The outcome where they have a fault. Its offset is in its file or at its end, so the remainder takes nothing from it.
 fn fault_bytes(fault: Fault) -> [u8; 8]
     ensures { result ≡ fault_bytes fault }
 {

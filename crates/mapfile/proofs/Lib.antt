@@ -13,3 +13,4 @@ pub mod TextSteps
 pub mod RowSteps
 pub mod FaultAnswers
 pub mod MapFiles
+pub mod FaultPlaces

@@ -6,5 +6,6 @@ pub mod CallsFind
 pub mod Trips
 pub mod Written
 pub mod PlanFinds
+pub mod FaultPlaces
 pub mod Numbers
 pub mod Promising

@@ -1,11 +1,11 @@
 -- The number of a verdict is small: at most 65 branches are open, and at most 16 carts have routes of at most 255 steps.
-use Rattle.std.proofs.Common.{◌≡◌, ℕ, zero, suc, ◌*◌, ◌≤◌, Bool, true, false, cond, nat_le, ◌==◌, [], List, length, Some, None, Ok, Option, unwrap_or, subst, refl, ap, sym, arith}
+use Rattle.std.proofs.Common.{◌≡◌, ℕ, zero, suc, ◌*◌, ◌≤◌, Bool, true, false, cond, nat_le, ◌==◌, [], List, length, Some, None, Option, unwrap_or, subst, refl, sym, arith}
 use Rattle.std.proofs.lemmas.List.Elements.{All-contains}
 use Rattle.motion.specs.Listed.{steps}
 use Rattle.motion.specs.Routes.{total}
 use Rattle.plan.specs.Promises.{number_in}
 use Rattle.tally.specs.CallAnswers.{Reached}
-use Rattle.tally.specs.Openings.{Opening, Openable, RouteOf, Sound, carts, opened}
+use Rattle.tally.specs.Openings.{Opening, Openable, RouteOf, Sound, carts}
 use Rattle.tally.specs.Standings.{places_shown, shown_sum, standing, unshown, verdict_of}
 use Rattle.tally.specs.Tallies.{Tally, is_shown, shown_of}
 use Rattle.tally.specs.declared.standing.Verdict.TheVariants.{Open, Unshown, OtherSum, Least}

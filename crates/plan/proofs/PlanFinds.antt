@@ -31,12 +31,12 @@ pub data PlanFinds (f : Floor) (r : Rules) (bytes : List ℕ) : Result Standing 
   comes_to : {s : Standing} → Settles f r bytes s → PlanFinds f r bytes (Ok s)
   has_fault : {e : PlanRefusal} {k offset : ℕ} → PlanFault f r bytes e k → offset ≡ k → PlanFinds f r bytes (Err (record { refusal = e; offset = offset }))
 
+pub length_trips : (trips : List Trip) → length (flat_map trip_text trips) ≡ 5 * length trips
+length_trips [] = refl
+length_trips (t ∷ trips) = let others = length_trips trips in omega (arith, others)
+
 length_heading : (claim : ℕ) (trips : List Trip) → length (heading_text claim trips) ≡ 4 + 5 * length trips
-length_heading claim trips = let all = texts trips in omega (arith, all)
-  where
-    texts : (ts : List Trip) → length (flat_map trip_text ts) ≡ 5 * length ts
-    texts [] = refl
-    texts (t ∷ ts) = let others = texts ts in omega (arith, others)
+length_heading claim trips = let all = length_trips trips in omega (arith, all)
 
 module _ (f : Floor) (r : Rules) (law : LawfulRules r) where
   module _ (claim : ℕ) (trips : List Trip) (offset : ℕ) (behind : List ℕ) (low : Bytes behind) (place : offset ≡ 4 + 5 * length trips) where

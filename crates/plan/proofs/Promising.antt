@@ -9,6 +9,7 @@ use Rattle.splits.specs.Rules.{Rules, LawfulRules}
 use Rattle.plan.specs.Layout.{Settles}
 use Rattle.plan.specs.Promises.{PlanOf, PlanPromises, ProvesBound, ProvesLeast, number_in}
 use Rattle.plan.specs.Reading.{opening}
+use Rattle.plan.proofs.FaultPlaces.{plan_fault_within}
 use Rattle.plan.proofs.Numbers.{standing_small}
 use Rattle.plan.proofs.PlanFinds.{plan_fault_is_first, plan_read_exactly}
 use Rattle.tally.specs.CallAnswers.{after_all}
@@ -77,6 +78,7 @@ module _ (f : Floor) (r : Rules) (floor : Lawful f) (rules : LawfulRules r) (byt
   plan_promises = record {
     read_exactly = plan_read_exactly f r rules bytes low;
     fault_is_first = plan_fault_is_first f r rules bytes low;
+    fault_is_in_file = λ fault is. plan_fault_within f r bytes fault.refusal fault.offset (plan_fault_is_first f r rules bytes low fault is);
     least_is_least = λ s n is least. proves_least s n ((plan_read_exactly f r rules bytes low s).0 is) least;
     none_open_is_bound = λ s is none. proves_bound s ((plan_read_exactly f r rules bytes low s).0 is) none;
     number_is_small = λ s is. number_small s ((plan_read_exactly f r rules bytes low s).0 is);

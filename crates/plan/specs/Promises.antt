@@ -1,11 +1,12 @@
 -- What holds of every plan file.
-use Rattle.std.specs.Prelude.{◌≡◌, ℕ, ◌≤◌, List, Ok}
+use Rattle.std.specs.Prelude.{◌≡◌, ℕ, ◌≤◌, List, length, Ok, Err}
 use Rattle.floor.specs.Floor.{Floor}
 use Rattle.motion.specs.declared.trip.Trip.{Trip}
 use Rattle.splits.specs.Rules.{Rules}
 use Rattle.plan.specs.FirstFault.{PlanFaultIsFirst}
 use Rattle.plan.specs.Layout.{PlanReadExactly, PlanText}
 use Rattle.plan.specs.Reading.{opening, plan_reading}
+use Rattle.plan.specs.declared.fault.Fault.{Fault}
 use Rattle.tally.specs.CallAnswers.{after_all}
 use Rattle.tally.specs.Calls.{Call}
 use Rattle.tally.specs.Laws.{Complete, NoRival, ShownLeast}
@@ -51,6 +52,8 @@ pub record PlanPromises (f : Floor) (r : Rules) (bytes : List ℕ) : Type 0 wher
   pub read_exactly : PlanReadExactly f r bytes
   -- Else its fault is the first, and stands where it says.
   pub fault_is_first : PlanFaultIsFirst f r bytes
+  -- The offset of a fault is that of a byte of the file, or its length.
+  pub fault_is_in_file : (fault : Fault) → plan_reading f r bytes ≡ Err fault → fault.offset ≤ length bytes
   -- A plan that settles as `least n` shows a least set, and the least sum is n.
   pub least_is_least : (s : Standing) (n : ℕ) → plan_reading f r bytes ≡ Ok s → s.verdict ≡ Least n → ProvesLeast f r bytes n
   -- A plan that leaves no branch open proves its claim as a lower bound, whatever routes it shows.

@@ -1,5 +1,5 @@
 -- What two files come to.
-use Rattle.std.proofs.Common.{◌≡◌, ℕ, List, Ok, Err, Result, refl, ap, ◌∙◌, sym, subst, ⊎_elim}
+use Rattle.std.proofs.Common.{◌≡◌, ℕ, ◌≤◌, List, length, Ok, Err, Result, refl, ap, ◌∙◌, sym, subst, ⊎_elim}
 use Rattle.std.proofs.lemmas.Bool.{cases_Bool}
 use Rattle.floor.specs.Checks.{◌>>=◌}
 use Rattle.floor.specs.Floor.{Lawful}
@@ -7,6 +7,7 @@ use Rattle.floor.proofs.Chains.{ok_no_err, ok_same, err_same}
 use Rattle.maps.specs.AnyMaps.{Hall, listed, gridded, hall_floor}
 use Rattle.maps.specs.GridsLemmas.{grid_lawful}
 use Rattle.mapfile.specs.ListLayout.{Bytes}
+use Rattle.mapfile.proofs.FaultPlaces.{map_fault_within}
 use Rattle.mapfile.proofs.GridLayout.{grid_read_exactly, grid_fault_is_first}
 use Rattle.mapfile.proofs.ListLayout.{list_read_exactly, list_fault_is_first}
 use Rattle.mapfile.proofs.MapFiles.{grid_exactly, grid_first, list_exactly, list_first}
@@ -15,10 +16,13 @@ use Rattle.mapfile.specs.declared.fault.Fault.{Fault as MapFault}
 use Rattle.plan.specs.Promises.{PlanPromises}
 use Rattle.plan.specs.Reading.{plan_reading}
 use Rattle.plan.specs.declared.fault.Fault.{Fault as InPlan}
+use Rattle.plan.proofs.FaultPlaces.{plan_fault_within}
 use Rattle.plan.proofs.PlanFinds.{plan_fault_is_first, plan_read_exactly}
 use Rattle.plan.proofs.Promising.{plan_promises}
+use Rattle.report.specs.Faults.{file_of, offset_of}
 use Rattle.report.specs.Files.{FilesFault, FilesFaultIsFirst, FilesReadExactly, FilesSettle, files_reading, in_map, in_plan, of_map, of_plan}
 use Rattle.report.specs.Promises.{FilesPromises, HallOf}
+use Rattle.report.specs.declared.fault.Fault.{Fault}
 use Rattle.splits.specs.BesideRuleLemmas.{beside_lawful}
 use Rattle.splits.specs.CorridorRules.{corridor_lawful}
 use Rattle.splits.specs.Own.{own}
@@ -88,10 +92,16 @@ module _ (map plan : List ℕ) (map_low : Bytes map) (low : Bytes plan) where
       by (Ok hall) read e = in_the_plan hall ((map_exactly hall).0 read) _ refl e
       by (Err g) read e = subst (FilesFault map plan) (err_same e) (in_map (map_fault_is_first map map_low g read))
 
+  -- a first fault stands in its file or at its end
+  fault_within : (f : Fault) → FilesFault map plan f → offset_of f ≤ length (file_of f map plan)
+  fault_within f (in_map {f = g} wrong) = map_fault_within (is_list map) map g.refusal g.offset wrong
+  fault_within f (in_plan {f = g} hall text wrong) = plan_fault_within (hall_floor hall) own plan g.refusal g.offset wrong
+
   pub files_promises : FilesPromises map plan
   files_promises = record {
     read_exactly = files_read_exactly;
     fault_is_first = files_fault_is_first;
+    fault_is_in_file = λ f is. fault_within f (files_fault_is_first f is);
     least_is_least = λ s n is least. let st = stands s is in (hall_of st, (kept st.hall st.text).least_is_least s n st.plan_read least);
     none_open_is_bound = λ s is none. let st = stands s is in (hall_of st, (kept st.hall st.text).none_open_is_bound s st.plan_read none);
     number_is_small = λ s is. let st = stands s is in (kept st.hall st.text).number_is_small s st.plan_read;

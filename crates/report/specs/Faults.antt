@@ -40,6 +40,11 @@ abbrev pub offset_of : Fault → ℕ
 offset_of (Map f) = f.offset
 offset_of (Plan f) = f.offset
 
+-- of the map's bytes and the plan's, those that the fault is in
+abbrev pub file_of : Fault → List ℕ → List ℕ → List ℕ
+file_of (Map f) map plan = map
+file_of (Plan f) map plan = plan
+
 -- the fault of an error: none where memory is wanting
 abbrev pub fault_of : ReportError → Option Fault
 fault_of (Faulty f) = Some f

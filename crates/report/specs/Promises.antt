@@ -1,12 +1,14 @@
 -- What holds of every two files.
-use Rattle.std.specs.Prelude.{◌≡◌, ℕ, ◌≤◌, List, Ok}
+use Rattle.std.specs.Prelude.{◌≡◌, ℕ, ◌≤◌, List, length, Ok, Err}
 use Rattle.maps.specs.AnyMaps.{Hall, hall_floor}
 use Rattle.mapfile.specs.MapFiles.{MapText}
 use Rattle.motion.specs.declared.trip.Trip.{Trip}
 use Rattle.plan.specs.Layout.{PlanText}
 use Rattle.plan.specs.Promises.{ProvesBound, ProvesLeast, number_in}
 use Rattle.plan.specs.Reading.{opening}
+use Rattle.report.specs.Faults.{file_of, offset_of}
 use Rattle.report.specs.Files.{FilesFaultIsFirst, FilesReadExactly, files_reading}
+use Rattle.report.specs.declared.fault.Fault.{Fault}
 use Rattle.splits.specs.Own.{own}
 use Rattle.tally.specs.Calls.{Call}
 use Rattle.tally.specs.Openings.{Openable}
@@ -25,6 +27,8 @@ pub record FilesPromises (map plan : List ℕ) : Type 0 where
   pub read_exactly : FilesReadExactly map plan
   -- Else the fault is the first, and stands where it says.
   pub fault_is_first : FilesFaultIsFirst map plan
+  -- The offset of a fault is that of a byte of its file, or the file's length.
+  pub fault_is_in_file : (f : Fault) → files_reading map plan ≡ Err f → offset_of f ≤ length (file_of f map plan)
   -- `least n`: on the hall's floor the routes that the plan shows are a conflict-free set for its carts that sums to n,
   -- and no conflict-free set of routes for them, of any lengths, sums to less.
   pub least_is_least : (s : Standing) (n : ℕ) → files_reading map plan ≡ Ok s → s.verdict ≡ Least n → (h : HallOf map) × ProvesLeast (hall_floor h.hall) own plan n
