@@ -2,6 +2,7 @@ pub mod Lists
 pub mod Totals
 pub mod Chaining
 pub mod Opening
+pub mod Telling
 pub mod Taking
 pub mod Reaching
 pub mod Counting

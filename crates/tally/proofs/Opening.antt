@@ -1,14 +1,15 @@
 -- What the answer to an opening tells.
-use Rattle.std.proofs.Common.{◌≡◌, ◌&&◌, leb, ◌↔◌, Ok, Decides, sym, refl, ⊎_elim, arith}
+use Rattle.std.proofs.Common.{◌≡◌, Bool, true, false, not, ◌&&◌, leb, ◌↔◌, Ok, Err, Decides, sym, refl, ⊎_elim, arith}
 use Rattle.floor.specs.Tests.{every_below}
-use Rattle.floor.proofs.Chains.{ok_exactly, unless_tells}
-use Rattle.floor.proofs.Deciding.{decides_every_below, decides_leb}
-use Rattle.std.proofs.lemmas.Bool.{cases_order, cases_lt}
+use Rattle.floor.proofs.Chains.{ok_exactly, passes, refused, unless_tells}
+use Rattle.floor.proofs.Deciding.{decides_every_below, decides_leb, false_from_decides}
+use Rattle.std.proofs.lemmas.Bool.{cases_order, cases_lt, not_from_false, not_from_true}
 use Rattle.std.proofs.lemmas.Bool.Decides.{Decides-and, Decides-eqb, Decides-like, Decides-ltb, Decides-not}
 use Rattle.tally.specs.Laws.{OpeningTells}
 use Rattle.tally.specs.Openings.{Opening, FewCarts, OnFloor, Apart, Openable, BarredBy, by_carts, by_claim, by_places, by_sharing, are_apart, carts, is_on_floor, opened}
 use Rattle.tally.specs.declared.refusal.Refusal.{Refusal}
 use Rattle.tally.specs.declared.refusal.Refusal.TheVariants.{Carts, Claim, NoPlace, Shared}
+use Rattle.tally.proofs.Chaining.{refusal_told}
 
 module _ (o : Opening) where
   decides_few : Decides (leb 1 (carts o) && leb (carts o) 16) (FewCarts o)
@@ -45,3 +46,25 @@ opening_tells o =
 
 pub opened_exactly : (o : Opening) → (opened o ≡ Ok tt) ↔ Openable o
 opened_exactly o = ok_exactly _ (BarredBy o) (opened o) tt (λ _ _ _. refl) (barred_or_openable o) (opening_tells o)
+
+-- ---- and back
+
+pub barred_exactly : (o : Opening) (e : Refusal) → (opened o ≡ Err e) ↔ BarredBy o e
+unfolding opened
+barred_exactly o e = (refusal_told (λ _. Openable o) (BarredBy o) _ e (opening_tells o), barred e)
+  where
+    -- a condition that holds passes its test, and one that does not is refused
+    held : (t : Bool) (C : Type 0) → Decides t C → C → not t ≡ false
+    held t C decides holds = not_from_true t (decides.1 holds)
+
+    failed : (t : Bool) (C : Type 0) → Decides t C → (C → ⊥) → not t ≡ true
+    failed t C decides fails = not_from_false t (false_from_decides t decides fails)
+
+    barred : (e : Refusal) → BarredBy o e → opened o ≡ Err e
+    barred e (by_carts lacks) = refused _ _ _ (failed _ _ (decides_few o) lacks)
+    barred e (by_claim few large) = passes _ _ _ _ (held _ _ (decides_few o) few) (refused _ _ _ (failed _ _ (decides_leb o.claim 4000) (λ small. omega (arith, small, large))))
+    barred e (by_places few small lacks) =
+        passes _ _ _ _ (held _ _ (decides_few o) few) (passes _ _ _ _ (held _ _ (decides_leb o.claim 4000) small) (refused _ _ _ (failed _ _ (decides_on_floor o) lacks)))
+    barred e (by_sharing few small on lacks) =
+        passes _ _ _ _ (held _ _ (decides_few o) few) (passes _ _ _ _ (held _ _ (decides_leb o.claim 4000) small)
+        (passes _ _ _ _ (held _ _ (decides_on_floor o) on) (refused _ _ _ (failed _ _ (decides_apart o) lacks))))

@@ -6,7 +6,8 @@ use Rattle.tally.specs.Calls.{Call, Takes, by_close, by_show, by_split}
 use Rattle.tally.specs.Openings.{Opening, Openable, Sound}
 use Rattle.tally.specs.Tallies.{Shown, Tally, at_start}
 use Rattle.tally.specs.declared.refusal.Refusal.{Refusal}
-use Rattle.tally.proofs.Taking.{Filled, call_exactly}
+use Rattle.tally.proofs.Taking.{call_exactly}
+use Rattle.tally.proofs.Telling.{Filled}
 
 -- ---- one call more
 

@@ -8,7 +8,8 @@ use Rattle.tally.specs.Calls.{Call, Closable, Gives, Showable, Takes, by_close, 
 use Rattle.tally.specs.Openings.{Opening, Openable, Sound}
 use Rattle.tally.specs.Tallies.{Branch, Shown, Tally, under}
 use Rattle.tally.specs.Plans.{Merged, none, from_left, from_right}
-use Rattle.tally.proofs.Taking.{Filled, call_exactly}
+use Rattle.tally.proofs.Taking.{call_exactly}
+use Rattle.tally.proofs.Telling.{Filled}
 
 -- the calls, of which this many are splits, close all the branches, the first one first
 pub data Due (o : Opening) : List Branch → ℕ → List Call → Type 0 where

@@ -4,14 +4,14 @@ use Rattle.motion.specs.Bans.{KeepsAll}
 use Rattle.motion.specs.Listed.{place_at}
 use Rattle.motion.specs.Routes.{RouteSet, ConflictFree, sum_of}
 use Rattle.splits.specs.Rules.{Names}
-use Rattle.tally.specs.CallAnswers.{Reached, after_all, answer, answers, called}
-use Rattle.tally.specs.Calls.{Call, Takes}
-use Rattle.tally.specs.Openings.{Opening, Openable, Opens, Sound, carts, opened}
+use Rattle.tally.specs.CallAnswers.{Reached, after_all, answers, called}
+use Rattle.tally.specs.Calls.{Call, RefusedBy, Takes}
+use Rattle.tally.specs.Openings.{BarredBy, Opening, Openable, Opens, Sound, carts, opened}
 use Rattle.tally.specs.Plans.{CallsOf, HonestPlan}
 use Rattle.tally.specs.Standings.{Says, places_shown, settle, shown_sum, standing}
 use Rattle.tally.specs.Tallies.{Branch, Tally, at_start, shown_of}
 use Rattle.tally.specs.declared.refusal.Refusal.{Refusal}
-use Rattle.tally.specs.declared.standing.Verdict.TheVariants.{Barred, Least}
+use Rattle.tally.specs.declared.standing.Verdict.TheVariants.{Barred, Least, OtherSum}
 
 abbrev pub OpeningTells : Type 0
 OpeningTells = (o : Opening) → Opens o (opened o)
@@ -47,9 +47,10 @@ pub record WithinLimits (t : Tally) : Type 0 where
 pub record Holds (o : Opening) (t : Tally) : Type 0 where
   -- a call gives a tally exactly when it is taken on a check that is not barred, and the tally that it leads to
   pub taken_exactly : (c : Call) (u : Tally) → (called o t c ≡ Ok u) ↔ Openable o × Takes o t c u
-  -- a barred check answers every call with what bars it, and stands as it started
-  pub barred_answers : (e : Refusal) → opened o ≡ Err e → (c : Call) → answer o t c ≡ Err e
-  pub barred_stands : (e : Refusal) → opened o ≡ Err e → standing o t ≡ record { branches = 1; splits = 0; closings = 0; verdict = Barred e }
+  -- and is refused exactly for what bars the check, or else for the first of its conditions that fails
+  pub refused_exactly : (c : Call) (e : Refusal) → (called o t c ≡ Err e) ↔ RefusedBy o t c e
+  -- a barred check stands as it started
+  pub barred_stands : (e : Refusal) → BarredBy o e → standing o t ≡ record { branches = 1; splits = 0; closings = 0; verdict = Barred e }
   -- the open branches and the closings taken are one more than the splits taken
   pub counts_agree : length t.branches + t.closings ≡ t.splits + 1
   pub limits : WithinLimits t
@@ -60,6 +61,8 @@ pub record Holds (o : Opening) (t : Tally) : Type 0 where
   pub none_open_no_rival : t.branches ≡ [] → NoRival o
   pub least_exactly : SettlesLeast o t ↔ Complete o t
   pub least_shown : SettlesLeast o t → ShownLeast o t
+  -- routes that sum to something else than the claim sum to more
+  pub other_sum_is_above : (s : ℕ) → Says (settle o t o.card) (OtherSum s) → o.claim < s
 
 -- at the start and after every list of calls
 abbrev pub AlwaysHolds : Type 0
