@@ -3,6 +3,7 @@ use Rattle.std.proofs.Common.{◌≡◌, ℕ, zero, suc, ◌+◌, ◌-◌, ◌*�
 use Rattle.std.proofs.lemmas.List.{take-append-drop, length-take-le}
 use Rattle.std.proofs.lemmas.List.Elements.{All-cons, All-drop, All-nil, All-take}
 use Rattle.floor.specs.Checks.{◌>>=◌}
+use Rattle.floor.specs.Floor.{Lawful}
 use Rattle.mapfile.specs.ListLayout.{Bytes}
 use Rattle.splits.specs.Rules.{Rules, LawfulRules}
 use Rattle.plan.specs.Commands.{Found, before_others, commands, found, words}
@@ -13,11 +14,13 @@ use Rattle.plan.specs.declared.fault.Fault.{Fault}
 use Rattle.plan.specs.declared.fault.PlanRefusal.{PlanRefusal}
 use Rattle.plan.proofs.Found.{Finds, a_route, a_closing, a_split, the_end, nothing, finds, fits}
 use Rattle.plan.proofs.Pairs.{length_words, written_words}
-use Rattle.tally.specs.CallAnswers.{after, after_all, answer_of, answers, called, tally_of}
+use Rattle.tally.specs.CallAnswers.{Reached, after, after_all, answer_of, answers, called, tally_of}
 use Rattle.tally.specs.Calls.{Call, show, split}
 use Rattle.tally.specs.Openings.{Opening}
 use Rattle.tally.specs.Tallies.{Tally}
 use Rattle.tally.specs.declared.refusal.Refusal.{Refusal}
+use Rattle.tally.proofs.Reaching.{filled, reached_more}
+use Rattle.tally.proofs.Taking.{refusal_exactly}
 
 -- ---- a command's text
 
@@ -57,7 +60,7 @@ pub data MadeFinds (o : Opening) (t : Tally) (at : ℕ) (bytes : List ℕ) : Res
       → NoGoingOn o (after_all o t calls) rest e k → length rest ≤ length bytes → offset ≡ at + (length bytes - length rest) + k
       → MadeFinds o t at bytes (Err (record { refusal = e; offset = offset }))
 
-module _ (o : Opening) (law : LawfulRules o.rules) (at : ℕ) where
+module _ (o : Opening) (floor : Lawful o.floor) (law : LawfulRules o.rules) (at : ℕ) where
   taken_more : (t u : Tally) (call : Call) (calls : List Call) → called o t call ≡ Ok u → Taken o u calls → Taken o t (call ∷ calls)
   taken_more t u call calls is taken =
       All-cons (λ answer. answer ≡ Ok tt) _ _ (ap answer_of is) (subst (λ v. Taken o v calls) (sym (ap (tally_of t) is)) taken)
@@ -78,30 +81,30 @@ module _ (o : Opening) (law : LawfulRules o.rules) (at : ℕ) where
       (subst (λ v. NoGoingOn o (after_all o v calls) rest e k) (sym next) wrong) (omega (arith, within, left)) (omega (arith, within, left, there, place))
 
   -- one call, where it is known what is found and what comes of those behind
-  made_step : (t : Tally) (letter : ℕ) (bytes : List ℕ) → Bytes (letter ∷ bytes)
-      → ((u : Tally) (n : ℕ) → n ≤ length bytes → MadeFinds o u (at + 1 + n) (drop n bytes) (made o u (commands o.rules n (at + 1) bytes)))
+  made_step : (t : Tally) → Reached o t → (letter : ℕ) (bytes : List ℕ) → Bytes (letter ∷ bytes)
+      → ((u : Tally) → Reached o u → (n : ℕ) → n ≤ length bytes → MadeFinds o u (at + 1 + n) (drop n bytes) (made o u (commands o.rules n (at + 1) bytes)))
       → (x : Found) → Finds o.rules at letter bytes x → MadeFinds o t at (letter ∷ bytes) (made o t (before_others at x (λ n. commands o.rules n (at + 1) bytes)))
-  made_step t letter bytes low later (Err f) (nothing wrong is) = stopped [] (letter ∷ bytes) none (All-nil (λ answer. answer ≡ Ok tt)) (no_call wrong) (omega arith) (omega (arith, is))
-  made_step t letter bytes low later (Ok None) the_end = all_made [] none (All-nil (λ answer. answer ≡ Ok tt))
-  made_step t letter bytes low later (Ok (Some (call, n))) finding = by (called o t call) refl
+  made_step t reached letter bytes low later (Err f) (nothing wrong is) = stopped [] (letter ∷ bytes) none (All-nil (λ answer. answer ≡ Ok tt)) (no_call wrong) (omega arith) (omega (arith, is))
+  made_step t reached letter bytes low later (Ok None) the_end = all_made [] none (All-nil (λ answer. answer ≡ Ok tt))
+  made_step t reached letter bytes low later (Ok (Some (call, n))) finding = by (called o t call) refl
     where
       by : (y : Result Tally Refusal) → called o t call ≡ y → MadeFinds o t at (letter ∷ bytes) (blame at y >>= λ u. made o u (commands o.rules n (at + 1) bytes))
-      by (Ok u) is = made_more t u letter bytes call n _ low finding is (later u n (fits o.rules law at letter bytes call n finding))
+      by (Ok u) is = made_more t u letter bytes call n _ low finding is (later u (subst (Reached o) (ap (tally_of t) is) (reached_more o t call reached)) n (fits o.rules law at letter bytes call n finding))
       by (Err e) is =
           stopped [] (letter ∷ bytes) none (All-nil (λ answer. answer ≡ Ok tt))
-          (call_refused (call_text o.rules law at (drop n bytes) [] letter bytes call n low finding none) (ap answer_of is)) (omega arith) (omega arith)
+          (call_refused (call_text o.rules law at (drop n bytes) [] letter bytes call n low finding none) ((refusal_exactly o (record { floor = floor; rules = law }) t (filled o (record { floor = floor; rules = law }) t reached) call e).0 is)) (omega arith) (omega arith)
 
-module _ (o : Opening) (law : LawfulRules o.rules) where
-  pub made_find : (t : Tally) (due at : ℕ) (bytes : List ℕ) → due ≤ length bytes → Bytes bytes
+module _ (o : Opening) (floor : Lawful o.floor) (law : LawfulRules o.rules) where
+  pub made_find : (t : Tally) → Reached o t → (due at : ℕ) (bytes : List ℕ) → due ≤ length bytes → Bytes bytes
       → MadeFinds o t (at + due) (drop due bytes) (made o t (commands o.rules due at bytes))
   unfolding commands
-  made_find t zero at [] enough low = stopped [] [] none (All-nil (λ answer. answer ≡ Ok tt)) (no_call file_ends) (omega arith) (omega arith)
-  made_find t (suc due) at [] enough low = absurd (omega (arith, enough))
-  made_find t (suc due) at (b ∷ bytes) enough low =
+  made_find t reached zero at [] enough low = stopped [] [] none (All-nil (λ answer. answer ≡ Ok tt)) (no_call file_ends) (omega arith) (omega arith)
+  made_find t reached (suc due) at [] enough low = absurd (omega (arith, enough))
+  made_find t reached (suc due) at (b ∷ bytes) enough low =
       let same : at + 1 + due ≡ at + suc due = omega arith in
       subst (λ k. MadeFinds o t k (drop due bytes) (made o t (commands o.rules due (at + 1) bytes))) same
-      (made_find t due (at + 1) bytes (omega (arith, enough)) (All-drop (λ x. x < 256) 1 (b ∷ bytes) low))
-  made_find t zero at (b ∷ bytes) enough low =
+      (made_find t reached due (at + 1) bytes (omega (arith, enough)) (All-drop (λ x. x < 256) 1 (b ∷ bytes) low))
+  made_find t reached zero at (b ∷ bytes) enough low =
       let same : at ≡ at + 0 = omega arith in
       subst (λ k. MadeFinds o t k (b ∷ bytes) (made o t (before_others at (found o.rules at b bytes) (λ n. commands o.rules n (at + 1) bytes)))) same
-      (made_step o law at t b bytes low (λ u n there. made_find u n (at + 1) bytes there (All-drop (λ x. x < 256) 1 (b ∷ bytes) low)) _ (finds o.rules at b bytes))
+      (made_step o floor law at t reached b bytes low (λ u reaches n there. made_find u reaches n (at + 1) bytes there (All-drop (λ x. x < 256) 1 (b ∷ bytes) low)) _ (finds o.rules at b bytes))

@@ -4,7 +4,7 @@ use Rattle.std.specs.List.{flat_map}
 use Rattle.std.proofs.Math.Seq.{drop-append_seam}
 use Rattle.std.proofs.lemmas.List.Elements.{All-drop}
 use Rattle.floor.specs.Checks.{◌>>=◌, ◌>>◌}
-use Rattle.floor.specs.Floor.{Floor}
+use Rattle.floor.specs.Floor.{Floor, Lawful}
 use Rattle.floor.proofs.Chains.{ok_no_err, ok_same, err_same}
 use Rattle.mapfile.specs.ListLayout.{Bytes}
 use Rattle.motion.specs.declared.trip.Trip.{Trip}
@@ -38,7 +38,7 @@ length_trips (t ∷ trips) = let others = length_trips trips in omega (arith, ot
 length_heading : (claim : ℕ) (trips : List Trip) → length (heading_text claim trips) ≡ 4 + 5 * length trips
 length_heading claim trips = let all = length_trips trips in omega (arith, all)
 
-module _ (f : Floor) (r : Rules) (law : LawfulRules r) where
+module _ (f : Floor) (floor : Lawful f) (r : Rules) (law : LawfulRules r) where
   module _ (claim : ℕ) (trips : List Trip) (offset : ℕ) (behind : List ℕ) (low : Bytes behind) (place : offset ≡ 4 + 5 * length trips) where
     o : Opening
     o = opening f r claim trips
@@ -68,7 +68,7 @@ module _ (f : Floor) (r : Rules) (law : LawfulRules r) where
     -- the check that the heading opens
     opening_find : (x : Result (Unit {0}) Refusal) → opened o ≡ x → PlanFinds f r whole (standing_of (blame 0 x >> made o at_start (commands r 0 offset behind)))
     unfolding o whole standing_of
-    opening_find (Ok x) is = calls_find is _ (made_find o law at_start 0 offset behind (omega arith) low)
+    opening_find (Ok x) is = calls_find is _ (made_find o floor law at_start ([], refl) 0 offset behind (omega arith) low)
     opening_find (Err e) is = has_fault (barred claim trips behind refl (subst (Opens o) is (opening_tells o))) refl
 
   after_heading : Result Heading Fault → Result Standing Fault

@@ -76,15 +76,15 @@ module _ (f : Floor) (r : Rules) (floor : Lawful f) (rules : LawfulRules r) (byt
 
   pub plan_promises : PlanPromises f r bytes
   plan_promises = record {
-    read_exactly = plan_read_exactly f r rules bytes low;
-    fault_is_first = plan_fault_is_first f r rules bytes low;
-    fault_is_in_file = λ fault is. plan_fault_within f r bytes fault.refusal fault.offset (plan_fault_is_first f r rules bytes low fault is);
-    least_is_least = λ s n is least. proves_least s n ((plan_read_exactly f r rules bytes low s).0 is) least;
-    none_open_is_bound = λ s is none. proves_bound s ((plan_read_exactly f r rules bytes low s).0 is) none;
-    number_is_small = λ s is. number_small s ((plan_read_exactly f r rules bytes low s).0 is);
+    read_exactly = plan_read_exactly f floor r rules bytes low;
+    fault_is_first = plan_fault_is_first f floor r rules bytes low;
+    fault_is_in_file = λ fault is. plan_fault_within f r bytes fault.refusal fault.offset (plan_fault_is_first f floor r rules bytes low fault is);
+    least_is_least = λ s n is least. proves_least s n ((plan_read_exactly f floor r rules bytes low s).0 is) least;
+    none_open_is_bound = λ s is none. proves_bound s ((plan_read_exactly f floor r rules bytes low s).0 is) none;
+    number_is_small = λ s is. number_small s ((plan_read_exactly f floor r rules bytes low s).0 is);
     honest_plans_succeed = λ claim trips openable plan calls of_plan text.
         let o = opening f r claim trips in
         let succeeds = honest_succeeds o (record { floor = floor; rules = rules }) openable plan calls of_plan in
         let s = standing o (after_all o at_start calls) in
-        (s, (plan_read_exactly f r rules bytes low s).1 (record { claim = claim; trips = trips; calls = calls; text = text; all_taken = record { opens = openable; taken = succeeds.all_taken }; settled = refl }), succeeds.settles_least);
+        (s, (plan_read_exactly f floor r rules bytes low s).1 (record { claim = claim; trips = trips; calls = calls; text = text; all_taken = record { opens = openable; taken = succeeds.all_taken }; settled = refl }), succeeds.settles_least);
   }

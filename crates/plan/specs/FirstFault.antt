@@ -11,7 +11,8 @@ use Rattle.plan.specs.declared.fault.FileRefusal.{FileRefusal}
 use Rattle.plan.specs.declared.fault.FileRefusal.TheVariants.{Letter, CutShort, Trailing}
 use Rattle.plan.specs.declared.fault.PlanRefusal.{PlanRefusal}
 use Rattle.plan.specs.declared.fault.PlanRefusal.TheVariants.{File, Call as ByCheck}
-use Rattle.tally.specs.CallAnswers.{after_all, answer}
+use Rattle.tally.specs.CallAnswers.{after_all}
+use Rattle.tally.specs.CallRefusals.{RefusedBy}
 use Rattle.tally.specs.Calls.{Call}
 use Rattle.tally.specs.Openings.{Opening, BarredBy}
 use Rattle.tally.specs.Tallies.{Tally, at_start}
@@ -54,7 +55,7 @@ pub data NoCall (r : Rules) : List ℕ → FileRefusal → ℕ → Type 0 where
 -- with this tally the bytes do not go on: why, and where in them
 pub data NoGoingOn (o : Opening) (t : Tally) : List ℕ → PlanRefusal → ℕ → Type 0 where
   no_call : {bytes : List ℕ} {e : FileRefusal} {k : ℕ} → NoCall o.rules bytes e k → NoGoingOn o t bytes (File e) k
-  call_refused : {call : Call} {bytes rest : List ℕ} {e : Refusal} → CallsText o.rules rest (call ∷ []) bytes → answer o t call ≡ Err e → NoGoingOn o t bytes (ByCheck e) 0
+  call_refused : {call : Call} {bytes rest : List ℕ} {e : Refusal} → CallsText o.rules rest (call ∷ []) bytes → RefusedBy o t call e → NoGoingOn o t bytes (ByCheck e) 0
 
 -- ---- in the file
 

@@ -75,10 +75,10 @@ module _ (map plan : List ℕ) (map_low : Bytes map) (low : Bytes plan) where
       by (Err f) read e = absurd (ok_no_err (sym e))
 
   files_read_exactly : FilesReadExactly map plan
-  files_read_exactly s = (λ is. settles (stands s is), λ is_so. on_hall is_so.hall is_so.map_text ∙ ap of_plan ((plan_read_exactly (hall_floor is_so.hall) own own_lawful plan low s).1 is_so.settles))
+  files_read_exactly s = (λ is. settles (stands s is), λ is_so. on_hall is_so.hall is_so.map_text ∙ ap of_plan ((plan_read_exactly (hall_floor is_so.hall) (hall_lawful is_so.hall map is_so.map_text) own own_lawful plan low s).1 is_so.settles))
     where
       settles : Stands s → FilesSettle map plan s
-      settles st = record { hall = st.hall; map_text = st.text; settles = (plan_read_exactly (hall_floor st.hall) own own_lawful plan low s).0 st.plan_read }
+      settles st = record { hall = st.hall; map_text = st.text; settles = (plan_read_exactly (hall_floor st.hall) (hall_lawful st.hall map st.text) own own_lawful plan low s).0 st.plan_read }
 
   files_fault_is_first : FilesFaultIsFirst map plan
   unfolding files_reading
@@ -86,7 +86,7 @@ module _ (map plan : List ℕ) (map_low : Bytes map) (low : Bytes plan) where
     where
       in_the_plan : (hall : Hall) → MapText hall map → (x : Result Standing InPlan) → plan_reading (hall_floor hall) own plan ≡ x → of_plan x ≡ Err f → FilesFault map plan f
       in_the_plan hall text (Ok s) read e = absurd (ok_no_err e)
-      in_the_plan hall text (Err g) read e = subst (FilesFault map plan) (err_same e) (in_plan hall text (plan_fault_is_first (hall_floor hall) own own_lawful plan low g read))
+      in_the_plan hall text (Err g) read e = subst (FilesFault map plan) (err_same e) (in_plan hall text (plan_fault_is_first (hall_floor hall) (hall_lawful hall map text) own own_lawful plan low g read))
 
       by : (m : Result Hall MapFault) → map_reading map ≡ m → (of_map m >>= λ h. of_plan (plan_reading (hall_floor h) own plan)) ≡ Err f → FilesFault map plan f
       by (Ok hall) read e = in_the_plan hall ((map_exactly hall).0 read) _ refl e

@@ -1,5 +1,5 @@
 -- What taken calls keep holds of every tally reached.
-use Rattle.std.proofs.Common.{◌≡◌, ◌≤◌, List, [], ◌∷◌, ◌++◌, length, Ok, Err, Result, refl, subst}
+use Rattle.std.proofs.Common.{◌≡◌, ◌≤◌, List, [], ◌∷◌, ◌++◌, length, Ok, Err, Result, refl, ap, ◌∙◌, subst}
 use Rattle.std.proofs.lemmas.List.Elements.{All-nil, All-push}
 use Rattle.tally.specs.CallAnswers.{Reached, after, after_all, called, tally_of}
 use Rattle.tally.specs.Calls.{Call, Takes, by_close, by_show, by_split}
@@ -14,6 +14,9 @@ use Rattle.tally.proofs.Telling.{Filled}
 pub after_more : (o : Opening) (t : Tally) (cs : List Call) (c : Call) → after_all o t (cs ++ (c ∷ [])) ≡ after o (after_all o t cs) c
 after_more o t [] c = refl
 after_more o t (d ∷ cs) c = after_more o (after o t d) cs c
+
+pub reached_more : (o : Opening) (t : Tally) (c : Call) → Reached o t → Reached o (after o t c)
+reached_more o t c (cs, is) = (cs ++ (c ∷ []), after_more o at_start cs c ∙ ap (λ u. after o u c) is)
 
 -- ---- what is kept
 

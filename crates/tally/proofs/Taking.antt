@@ -13,7 +13,8 @@ use Rattle.std.specs.Result.{result_map_both}
 use Rattle.std.proofs.lemmas.Bool.{lt-leb, not-false, not_from_false, not_from_true, not-true, or_from}
 use Rattle.std.proofs.lemmas.Bool.Decides.{Decides-or}
 use Rattle.tally.specs.CallAnswers.{called, closing, current, operands, showing, splitting, tested}
-use Rattle.tally.specs.Calls.{Call, Closable, CloseFails, Fails, Gives, RefusedBy, Routeless, Showable, ShowFails, SplitFails, Takes, by_call, by_close, by_opening, by_rule, by_show, by_split, cheaper_set, close, full, has_route, in_conflict as conflicts, no_route, none_open, off_floor, operands_cut, show, split, unknown_cart, unknown_letter}
+use Rattle.tally.specs.CallRefusals.{CloseFails, Fails, RefusedBy, ShowFails, SplitFails, by_call, by_opening, by_rule, cheaper_set, full, has_route, in_conflict as conflicts, no_route, none_open, off_floor, operands_cut, unknown_cart, unknown_letter}
+use Rattle.tally.specs.Calls.{Call, Closable, Gives, Routeless, Showable, Takes, by_close, by_show, by_split, close, show, split}
 use Rattle.tally.specs.Openings.{Opening, Openable, RouteOf, Sound, carts, opened}
 use Rattle.tally.specs.Refusals.{from_route, from_rule}
 use Rattle.tally.specs.Tallies.{Branch, Tally, is_shown, with_closing, with_route, with_split}

@@ -17,7 +17,8 @@ use Rattle.splits.specs.declared.refusal.SplitRefusal.{SplitRefusal}
 use Rattle.std.specs.Result.{result_map_both}
 use Rattle.std.proofs.lemmas.Bool.Decides.{Decides-eqb, Decides-like, Decides-or}
 use Rattle.tally.specs.CallAnswers.{closing, current, operands, showing, splitting, tested}
-use Rattle.tally.specs.Calls.{Call, CloseFails, Fails, FreeOf, Routeless, ShowFails, SplitFails, Takes, by_close, by_rule, by_show, by_split, cheaper_set, close, full, has_route, in_conflict as conflicts, no_route, none_open, off_floor, operands_cut, show, split, unknown_cart, unknown_letter}
+use Rattle.tally.specs.CallRefusals.{CloseFails, Fails, ShowFails, SplitFails, by_rule, cheaper_set, full, has_route, in_conflict as conflicts, no_route, none_open, off_floor, operands_cut, unknown_cart, unknown_letter}
+use Rattle.tally.specs.Calls.{Call, FreeOf, Routeless, Takes, by_close, by_show, by_split, close, show, split}
 use Rattle.tally.specs.Openings.{Opening, Sound, carts}
 use Rattle.tally.specs.Refusals.{from_route, from_rule}
 use Rattle.tally.specs.Tallies.{Branch, Shown, Tally, is_shown, with_closing, with_route, with_split}

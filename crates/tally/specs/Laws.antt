@@ -5,7 +5,8 @@ use Rattle.motion.specs.Listed.{place_at}
 use Rattle.motion.specs.Routes.{RouteSet, ConflictFree, sum_of}
 use Rattle.splits.specs.Rules.{Names}
 use Rattle.tally.specs.CallAnswers.{Reached, after_all, answers, called}
-use Rattle.tally.specs.Calls.{Call, RefusedBy, Takes}
+use Rattle.tally.specs.CallRefusals.{RefusedBy}
+use Rattle.tally.specs.Calls.{Call, Takes}
 use Rattle.tally.specs.Openings.{BarredBy, Opening, Openable, Opens, Sound, carts, opened}
 use Rattle.tally.specs.Plans.{CallsOf, HonestPlan}
 use Rattle.tally.specs.Standings.{Says, places_shown, settle, shown_sum, standing}

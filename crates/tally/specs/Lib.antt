@@ -2,6 +2,7 @@ pub mod Refusals
 pub mod Openings
 pub mod Tallies
 pub mod Calls
+pub mod CallRefusals
 pub mod CallAnswers
 pub mod Standings
 pub mod Trees
