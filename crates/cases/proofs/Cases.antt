@@ -1,6 +1,7 @@
 -- The worked cases, by computing.
 use Rattle.std.proofs.Common.{refl}
 use Rattle.cases.specs.Worked.{Holds, worked, WorkedCases}
+use Rattle.std.specs.Fmt.{digits}
 use Rattle.std.proofs.lemmas.List.Elements.{All-from_recursion}
 use Rattle.maps.specs.Networks.{founding, joining}
 use Rattle.mapfile.specs.GridFiles.{grid_reading}
@@ -15,5 +16,5 @@ use Rattle.tally.specs.CallAnswers.{closing, showing, splitting}
 use Rattle.tally.specs.Openings.{opened}
 
 pub worked_cases : WorkedCases
-unfolding map_reading list_reading grid_reading founding joining in_conflict route_check files_reading plan_reading heading commands opened showing splitting closing
-worked_cases = All-from_recursion Holds worked (refl, (refl, (refl, (refl, (refl, (refl, (refl, (refl, (refl, (refl, (refl, (refl, (refl, (refl, (refl, (refl, (refl, (refl, (refl, tt)))))))))))))))))))
+unfolding digits map_reading list_reading grid_reading founding joining in_conflict route_check files_reading plan_reading heading commands opened showing splitting closing
+worked_cases = All-from_recursion Holds worked (refl, (refl, (refl, (refl, (refl, (refl, (refl, (refl, (refl, (refl, (refl, (refl, (refl, (refl, (refl, (refl, (refl, (refl, (refl, (refl, (refl, tt)))))))))))))))))))))

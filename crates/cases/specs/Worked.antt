@@ -6,44 +6,46 @@ use Rattle.maps.specs.Networks.{network_floor}
 use Rattle.maps.specs.declared.refusal.MapRefusal.TheVariants.{Headless, Gauge, NoPlace, Twice}
 use Rattle.mapfile.specs.Faults.{fault}
 use Rattle.mapfile.specs.MapFiles.{map_reading}
-use Rattle.mapfile.specs.declared.fault.Fault.{Fault}
+use Rattle.mapfile.specs.declared.fault.Fault.{Fault as MapFault}
 use Rattle.motion.specs.Listed.{in_conflict}
 use Rattle.motion.specs.declared.ban.Ban.{Ban}
 use Rattle.motion.specs.declared.ban.Ban.TheVariants.{Late, Stand}
 use Rattle.motion.specs.declared.trip.Trip.{Trip}
-use Rattle.plan.specs.Faults.{call_fault}
+use Rattle.report.specs.Faults.{fault_text}
 use Rattle.report.specs.Files.{files_reading}
-use Rattle.report.specs.declared.fault.Fault.{Fault as FileFault}
-use Rattle.report.specs.declared.fault.Fault.TheVariants.{Plan as InPlan}
+use Rattle.report.specs.declared.fault.Fault.{Fault}
 use Rattle.samples.specs.Floors.{line, small_floor}
 use Rattle.samples.specs.Trips.{trip}
 use Rattle.search.specs.Least.{least_length}
-use Rattle.std.specs.Result.{result_map_both}
 use Rattle.splits.specs.Own.{own}
 use Rattle.splits.specs.Rules.{Sides}
 use Rattle.splits.specs.declared.refusal.SplitRefusal.TheVariants.{Unlawful}
-use Rattle.tally.specs.declared.refusal.Refusal.TheVariants.{CheaperSet}
-use Rattle.tally.specs.declared.standing.Verdict.{Verdict}
-use Rattle.tally.specs.declared.standing.Verdict.TheVariants.{Open, Least}
+use Rattle.tally.specs.Standings.{text_of}
+use Rattle.tally.specs.declared.standing.Standing.{Standing}
 
 pub data Case : Type 0 where
   -- a map file comes to a hall or a fault
-  reading : List ℕ → Result Hall Fault → Case
+  reading : List ℕ → Result Hall MapFault → Case
   -- two lists of places conflict, or not
   meeting : List ℕ → List ℕ → Bool → Case
   -- a cart's least length under bans, below a limit
   shortest : Floor → List Trip → List Ban → ℕ → ℕ → Option ℕ → Case
   -- a letter with its operands gives two sides or a refusal
   splitting : Floor → List Trip → List Ban → ℕ → List ℕ → Sides → Case
-  -- a map file and a plan file come to a verdict or a fault
-  settling : List ℕ → List ℕ → Result Verdict FileFault → Case
+  -- of a map file and a plan file this line is printed
+  settling : List ℕ → List ℕ → List ℕ → Case
+
+-- what is printed of two files
+abbrev pub line_of : Result Standing Fault → List ℕ
+line_of (Ok s) = text_of s.verdict
+line_of (Err f) = fault_text f
 
 abbrev pub Holds : Case → Type 0
 Holds (reading bytes outcome) = map_reading bytes ≡ outcome
 Holds (meeting ps qs conflict) = in_conflict ps qs ≡ conflict
 Holds (shortest f trips bans a limit length) = least_length f trips bans a limit ≡ length
 Holds (splitting f trips bans letter ops sides) = own.sides f trips bans letter ops ≡ sides
-Holds (settling map plan outcome) = result_map_both (λ s. s.verdict) (λ f. f) (files_reading map plan) ≡ outcome
+Holds (settling map plan told) = line_of (files_reading map plan) ≡ told
 
 -- the small floor's map
 abbrev pub small_map : List ℕ
@@ -80,23 +82,36 @@ splittings =
     through 0 7 7 (Ok (Stand (record { 0 = 0 }) (record { 0 = 4 }) (record { 0 = 0 }) (record { 0 = 7 }), Stand (record { 0 = 1 }) (record { 0 = 1 }) (record { 0 = 0 }) (record { 0 = 7 })))
     ∷ through 0 8 7 (Err Unlawful) ∷ through 2 7 7 (Err Unlawful) ∷ []
 
--- its plan's heading and routes: a claim of 6; cart 0 from 0 to 3, and cart 1 from 4 to 2, which waits until it has passed
+-- its plan's heading and the route of cart 0: a claim of 6; cart 0 from 0 to 3, and cart 1 from 4 to 2
+abbrev pub small_heading : List ℕ
+small_heading = 79 ∷ 0 ∷ 6 ∷ 2 ∷ 67 ∷ 0 ∷ 0 ∷ 0 ∷ 3 ∷ 67 ∷ 0 ∷ 4 ∷ 0 ∷ 2 ∷ 82 ∷ 0 ∷ 3 ∷ 0 ∷ 0 ∷ 0 ∷ 1 ∷ 0 ∷ 2 ∷ 0 ∷ 3 ∷ []
+
+-- and with the route of cart 1, which waits until cart 0 has passed
 abbrev pub small_front : List ℕ
-small_front =
-    79 ∷ 0 ∷ 6 ∷ 2 ∷ 67 ∷ 0 ∷ 0 ∷ 0 ∷ 3 ∷ 67 ∷ 0 ∷ 4 ∷ 0 ∷ 2 ∷ 82 ∷ 0 ∷ 3 ∷ 0 ∷ 0 ∷ 0 ∷ 1 ∷ 0 ∷ 2 ∷ 0 ∷ 3 ∷ 82 ∷ 1 ∷ 3 ∷ 0 ∷ 4 ∷ 0 ∷ 4 ∷ 0 ∷ 4 ∷ 0 ∷ 2 ∷ []
+small_front = small_heading ++ (82 ∷ 1 ∷ 3 ∷ 0 ∷ 4 ∷ 0 ∷ 4 ∷ 0 ∷ 4 ∷ 0 ∷ 2 ∷ [])
 
 -- split on whether cart 1 is home by tick t
 abbrev pub by_tick : ℕ → List ℕ
 by_tick t = 84 ∷ 1 ∷ 0 ∷ t ∷ []
 
--- the whole plan; split at another tick; without the split; with one closing of two; a cart that stays at place 3
+-- two places joined, and two carts that change places
+abbrev pub pair_map : List ℕ
+pair_map = 80 ∷ 0 ∷ 2 ∷ 87 ∷ 0 ∷ 0 ∷ 0 ∷ 1 ∷ []
+
+abbrev pub changing_places : List ℕ
+changing_places = 79 ∷ 0 ∷ 2 ∷ 2 ∷ 67 ∷ 0 ∷ 0 ∷ 0 ∷ 1 ∷ 67 ∷ 0 ∷ 1 ∷ 0 ∷ 0 ∷ 82 ∷ 0 ∷ 1 ∷ 0 ∷ 0 ∷ 0 ∷ 1 ∷ 82 ∷ 1 ∷ 1 ∷ 0 ∷ 1 ∷ 0 ∷ 0 ∷ 90 ∷ []
+
+-- the whole plan; split at another tick; without the split; with one closing of two; a cart that stays at place 3; cart 1
+-- goes to 2 at once, where cart 0 runs into it; two carts that change places
 abbrev pub settlings : List Case
 settlings =
-    settling small_map (small_front ++ (by_tick 2 ++ (88 ∷ 88 ∷ 90 ∷ []))) (Ok (Least 6))
-    ∷ settling small_map (small_front ++ (by_tick 1 ++ (88 ∷ 88 ∷ 90 ∷ []))) (Err (InPlan (call_fault CheaperSet 40)))
-    ∷ settling small_map (small_front ++ (88 ∷ 88 ∷ 90 ∷ [])) (Err (InPlan (call_fault CheaperSet 36)))
-    ∷ settling small_map (small_front ++ (by_tick 2 ++ (88 ∷ 90 ∷ []))) (Ok (Open 1))
-    ∷ settling small_map (79 ∷ 0 ∷ 0 ∷ 1 ∷ 67 ∷ 0 ∷ 3 ∷ 0 ∷ 3 ∷ 82 ∷ 0 ∷ 0 ∷ 0 ∷ 3 ∷ 88 ∷ 90 ∷ []) (Ok (Least 0)) ∷ []
+    settling small_map (small_front ++ (by_tick 2 ++ (88 ∷ 88 ∷ 90 ∷ []))) (codes "least 6")
+    ∷ settling small_map (small_front ++ (by_tick 1 ++ (88 ∷ 88 ∷ 90 ∷ []))) (codes "refused call 20 40")
+    ∷ settling small_map (small_front ++ (88 ∷ 88 ∷ 90 ∷ [])) (codes "refused call 20 36")
+    ∷ settling small_map (small_front ++ (by_tick 2 ++ (88 ∷ 90 ∷ []))) (codes "open 1")
+    ∷ settling small_map (79 ∷ 0 ∷ 0 ∷ 1 ∷ 67 ∷ 0 ∷ 3 ∷ 0 ∷ 3 ∷ 82 ∷ 0 ∷ 0 ∷ 0 ∷ 3 ∷ 88 ∷ 90 ∷ []) (codes "least 0")
+    ∷ settling small_map (small_heading ++ (82 ∷ 1 ∷ 1 ∷ 0 ∷ 4 ∷ 0 ∷ 2 ∷ 90 ∷ [])) (codes "refused call 15 25")
+    ∷ settling pair_map changing_places (codes "refused call 15 21") ∷ []
 
 abbrev pub worked : List Case
 worked = readings ++ (meetings ++ (lengths ++ (splittings ++ settlings)))
