@@ -2,12 +2,11 @@
 use Rattle.std.proofs.Common.{ℕ, ◌≤◌, List, length, ap, arith, length-append}
 use Rattle.floor.specs.Floor.{Floor}
 use Rattle.splits.specs.Rules.{Rules}
+use Rattle.plan.proofs.CallsWritten.{left_within}
 use Rattle.plan.proofs.PlanFinds.{length_trips}
-use Rattle.plan.specs.FirstFault.{NoCommand, NoCall, NoGoingOn, PlanFault, file_ends, other_letter, operands_cut, no_call, call_refused, no_opening, not_carts, no_trip, barred, at_call}
-use Rattle.plan.specs.Layout.{CallsText, none, route, splitting, closing}
+use Rattle.plan.specs.FirstFault.{HeadingFault, NoCommand, NoCall, NoGoingOn, PlanFault, file_ends, other_letter, operands_cut, no_call, call_refused, no_opening, not_carts, no_trip, in_heading, barred, at_call}
 use Rattle.plan.specs.declared.fault.FileRefusal.{FileRefusal}
 use Rattle.plan.specs.declared.fault.PlanRefusal.{PlanRefusal}
-use Rattle.tally.specs.Calls.{Call}
 use Rattle.tally.specs.Openings.{Opening}
 use Rattle.tally.specs.Tallies.{Tally}
 
@@ -23,24 +22,17 @@ going_on_within : (o : Opening) (t : Tally) (bytes : List ℕ) (e : PlanRefusal)
 going_on_within o t bytes e k (no_call {e = d} wrong) = call_within o.rules bytes d k wrong
 going_on_within o t bytes e k (call_refused text is) = omega arith
 
--- what is left behind calls is a part of the bytes
-left_within : (r : Rules) (left : List ℕ) (calls : List Call) (bytes : List ℕ) → CallsText r left calls bytes → length left ≤ length bytes
-left_within r left calls bytes none = omega arith
-left_within r left calls bytes (route ps {calls = others} {bytes = behind} some few text) =
-    let there = left_within r left others behind text in simp length-append (omega (arith, there))
-left_within r left calls bytes (splitting ops said {calls = others} {bytes = behind} known is same part text) =
-    let there = left_within r left others behind text in simp length-append (omega (arith, there))
-left_within r left calls bytes (closing {calls = others} {bytes = behind} text) =
-    let there = left_within r left others behind text in omega (arith, there)
-
-pub plan_fault_within : (f : Floor) (r : Rules) (bytes : List ℕ) (e : PlanRefusal) (k : ℕ) → PlanFault f r bytes e k → k ≤ length bytes
-plan_fault_within f r bytes e k (no_opening {e = d} wrong) = command_within 79 3 bytes d k wrong
-plan_fault_within f r bytes e k (not_carts claim carts rest text many) = omega arith
-plan_fault_within f r bytes e k (no_trip {e = d} {k = at} claim carts front rest few fewer text wrong) =
+heading_fault_within : (bytes : List ℕ) (e : PlanRefusal) (k : ℕ) → HeadingFault bytes e k → k ≤ length bytes
+heading_fault_within bytes e k (no_opening {e = d} wrong) = command_within 79 3 bytes d k wrong
+heading_fault_within bytes e k (not_carts claim carts rest text many) = omega arith
+heading_fault_within bytes e k (no_trip {e = d} {k = at} claim carts front rest few fewer text wrong) =
     let there = command_within 67 4 rest d at wrong in
     let long = simp length-append at (ap length text) in
     let trips = length_trips front in
     omega (arith, there, long, trips)
+
+pub plan_fault_within : (f : Floor) (r : Rules) (bytes : List ℕ) (e : PlanRefusal) (k : ℕ) → PlanFault f r bytes e k → k ≤ length bytes
+plan_fault_within f r bytes e k (in_heading wrong) = heading_fault_within bytes e k wrong
 plan_fault_within f r bytes e k (barred claim trips rest text bars) = omega arith
 plan_fault_within f r bytes e k (at_call {k = at} claim trips calls behind rest text calls_text taken wrong) =
     let there = going_on_within _ _ rest e at wrong in

@@ -10,12 +10,13 @@ use Rattle.mapfile.proofs.Words.{word_high, word_low}
 use Rattle.motion.specs.declared.trip.Trip.{Trip}
 use Rattle.splits.specs.Operands.{byte, word}
 use Rattle.plan.specs.Faults.{call_fault, file_fault}
-use Rattle.plan.specs.FirstFault.{NoCommand, file_ends, other_letter, operands_cut, FewCarts}
+use Rattle.plan.specs.FirstFault.{HeadingFault, NoCommand, file_ends, no_opening, no_trip, not_carts, other_letter, operands_cut}
 use Rattle.plan.specs.Headings.{Heading, Rest, heading, operands, trip_of, trips_at}
-use Rattle.plan.specs.Layout.{heading_text, opening_text, trip_text}
+use Rattle.plan.specs.Layout.{FewCarts, heading_text, opening_text, trip_text}
 use Rattle.plan.specs.declared.fault.Fault.{Fault}
 use Rattle.plan.specs.declared.fault.FileRefusal.{FileRefusal}
 use Rattle.plan.specs.declared.fault.FileRefusal.TheVariants.{Letter, CutShort}
+use Rattle.plan.specs.declared.fault.PlanRefusal.{PlanRefusal}
 use Rattle.tally.specs.declared.refusal.Refusal.TheVariants.{Carts}
 
 abbrev pub rest : ℕ → List ℕ → Rest
@@ -89,10 +90,7 @@ trips_find (suc n) at bytes fit = by (λ ds low. trips_find n (at + 1 + 4) ds lo
 pub data HeadingFinds : List ℕ → Result Heading Fault → Type 0 where
   whole_heading : {bytes : List ℕ} {offset : ℕ} (claim : ℕ) (trips : List Trip) → FewCarts (length trips) → offset ≡ 4 + 5 * length trips
       → HeadingFinds (heading_text claim trips ++ bytes) (Ok (record { claim = claim; trips = trips; behind = rest offset bytes }))
-  no_opening : {bytes : List ℕ} {e : FileRefusal} {k offset : ℕ} → NoCommand 79 3 bytes e k → offset ≡ k → HeadingFinds bytes (Err (file_fault e offset))
-  not_carts : {bytes : List ℕ} (claim carts : ℕ) → (FewCarts carts → ⊥) → HeadingFinds (opening_text claim carts ++ bytes) (Err (call_fault Carts 0))
-  no_trip : {bytes : List ℕ} {e : FileRefusal} {k offset : ℕ} (claim carts : ℕ) (front : List Trip) → FewCarts carts → length front < carts → NoCommand 67 4 bytes e k
-      → offset ≡ 4 + 5 * length front + k → HeadingFinds ((opening_text claim carts ++ flat_map trip_text front) ++ bytes) (Err (file_fault e offset))
+  no_heading : {bytes : List ℕ} {e : PlanRefusal} {k offset : ℕ} → HeadingFault bytes e k → offset ≡ k → HeadingFinds bytes (Err (record { refusal = e; offset = offset }))
 
 with_trips : ℕ → Result (List Trip × Rest) Fault → Result Heading Fault
 with_trips claim found = found >>= λ trips. Ok (record { claim = claim; trips = trips.0; behind = trips.1 })
@@ -101,13 +99,13 @@ heading_of_trips : (claim carts : ℕ) (bytes : List ℕ) (found : Result (List 
     → HeadingFinds (opening_text claim carts ++ bytes) (with_trips claim found)
 unfolding with_trips
 heading_of_trips claim carts bytes found few (all trips is) = whole_heading claim trips few is
-heading_of_trips claim carts bytes found few (missing front fewer wrong is) = no_trip claim carts front few fewer wrong is
+heading_of_trips claim carts bytes found few (missing {bytes = left} front fewer wrong is) = no_heading (no_trip claim carts front left few fewer refl wrong) is
 
 behind_opening : (claim carts : ℕ) (bytes : List ℕ) → Bytes bytes → (few : Bool) → (nat_le 1 carts && nat_le carts 16) ≡ few
     → HeadingFinds (opening_text claim carts ++ bytes) (refuse (not few) (call_fault Carts 0) >> with_trips claim (trips_at carts (rest 4 bytes)))
 unfolding with_trips
 behind_opening claim carts bytes fit true is = heading_of_trips claim carts bytes _ (grind (arith, nat_tests, is), grind (arith, nat_tests, is)) (trips_find carts 4 bytes fit)
-behind_opening claim carts bytes fit false is = not_carts claim carts (λ few. let low = few.0 in let high = few.1 in grind (arith, nat_tests, is, low, high))
+behind_opening claim carts bytes fit false is = no_heading (not_carts claim carts bytes refl (λ few. let low = few.0 in let high = few.1 in grind (arith, nat_tests, is, low, high))) refl
 
 pub heading_find : (bytes : List ℕ) → Bytes bytes → HeadingFinds bytes (heading bytes)
 unfolding heading with_trips
@@ -115,7 +113,7 @@ heading_find bytes fit = by bytes _ (operands_find 79 3 0 bytes) fit
   where
     by : (bs : List ℕ) (x : Result (List ℕ × Rest) Fault) → OperandsFind 79 3 0 bs x → Bytes bs
         → HeadingFinds bs (x >>= λ opening. refuse (not (nat_le 1 (byte opening.0 2) && nat_le (byte opening.0 2) 16)) (call_fault Carts 0) >> with_trips (word opening.0 0) (trips_at (byte opening.0 2) opening.1))
-    by bs x (none wrong is) low = no_opening wrong (omega arith)
+    by bs x (none wrong is) low = no_heading (no_opening wrong) (omega arith)
     by bs x (whole {bytes = h ∷ l ∷ c ∷ ds} enough) low =
         subst (λ number. HeadingFinds (79 ∷ (number ++ (c ∷ [])) ++ ds) (refuse (not (nat_le 1 c && nat_le c 16)) (call_fault Carts 0) >> with_trips (h * 256 + l) (trips_at c (rest 4 ds))))
         (two_back h l (low 2 0 (omega arith)))

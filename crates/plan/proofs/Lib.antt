@@ -4,7 +4,9 @@ pub mod Pairs
 pub mod HeadingFinds
 pub mod CallsFind
 pub mod Trips
-pub mod Written
+pub mod HeadingWritten
+pub mod HeadingTells
+pub mod CallsWritten
 pub mod PlanFinds
 pub mod FaultPlaces
 pub mod Numbers

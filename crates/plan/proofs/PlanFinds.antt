@@ -1,5 +1,5 @@
 -- What a plan file comes to: it is read exactly when it is laid out as one and taken, and its fault is the first.
-use Rattle.std.proofs.Common.{◌≡◌, ℕ, ◌+◌, ◌*◌, ◌<◌, List, [], ◌∷◌, ◌++◌, length, Ok, Err, Result, refl, ap, ◌∙◌, sym, subst, length-append, arith}
+use Rattle.std.proofs.Common.{◌≡◌, ℕ, ◌+◌, ◌-◌, ◌*◌, ◌<◌, List, [], ◌∷◌, ◌++◌, length, Ok, Err, Result, refl, ap, ◌∙◌, sym, subst, length-append, arith}
 use Rattle.std.specs.List.{flat_map}
 use Rattle.std.proofs.Math.Seq.{drop-append_seam}
 use Rattle.std.proofs.lemmas.List.Elements.{All-drop}
@@ -10,22 +10,26 @@ use Rattle.mapfile.specs.ListLayout.{Bytes}
 use Rattle.motion.specs.declared.trip.Trip.{Trip}
 use Rattle.splits.specs.Rules.{Rules, LawfulRules}
 use Rattle.plan.specs.Commands.{commands}
-use Rattle.plan.specs.FirstFault.{PlanFault, PlanFaultIsFirst, no_opening, not_carts, no_trip, barred, at_call}
+use Rattle.plan.specs.Faults.{call_fault}
+use Rattle.plan.specs.FirstFault.{PlanFault, PlanFaultIsFirst, in_heading, barred, at_call}
 use Rattle.plan.specs.Headings.{Heading, heading}
-use Rattle.plan.specs.Layout.{PlanReadExactly, Settles, heading_text, trip_text}
+use Rattle.plan.specs.Layout.{FewCarts, PlanReadExactly, Settles, heading_text, trip_text}
 use Rattle.plan.specs.Reading.{blame, made, made_if_open, opening, plan_reading}
 use Rattle.plan.specs.declared.fault.Fault.{Fault}
 use Rattle.plan.specs.declared.fault.PlanRefusal.{PlanRefusal}
 use Rattle.plan.proofs.CallsFind.{MadeFinds, all_made, stopped, made_find}
-use Rattle.plan.proofs.HeadingFinds.{HeadingFinds, whole_heading, no_opening as HasNoOpening, not_carts as HasNotCarts, no_trip as HasNoTrip, heading_find}
-use Rattle.plan.proofs.Written.{calls_written, heading_written}
+use Rattle.plan.proofs.HeadingFinds.{HeadingFinds, heading_find, no_heading, whole_heading}
+use Rattle.plan.proofs.CallsWritten.{calls_lead, calls_written, left_within, stopped_made}
+use Rattle.plan.proofs.HeadingWritten.{carts_refused, heading_refuses, heading_written}
 use Rattle.tally.specs.CallAnswers.{after_all}
-use Rattle.tally.specs.Openings.{Opening, Opens, opened}
+use Rattle.tally.specs.Openings.{BarredBy, Opening, Opens, Sound, by_carts, by_claim, by_places, by_sharing, opened}
 use Rattle.tally.specs.Standings.{standing}
 use Rattle.tally.specs.Tallies.{Tally, at_start}
 use Rattle.tally.specs.declared.refusal.Refusal.{Refusal}
 use Rattle.tally.specs.declared.standing.Standing.{Standing}
-use Rattle.tally.proofs.Opening.{opened_exactly, opening_tells}
+use Rattle.tally.proofs.Opening.{barred_exactly, opened_exactly, opening_tells}
+use Rattle.tally.proofs.Reaching.{filled}
+use Rattle.tally.proofs.Taking.{refusal_exactly}
 
 pub data PlanFinds (f : Floor) (r : Rules) (bytes : List ℕ) : Result Standing Fault → Type 0 where
   comes_to : {s : Standing} → Settles f r bytes s → PlanFinds f r bytes (Ok s)
@@ -83,16 +87,47 @@ module _ (f : Floor) (floor : Lawful f) (r : Rules) (law : LawfulRules r) where
   heading_found all x (whole_heading {bytes = behind} {offset = offset} claim trips few place) low =
       let front = heading_text claim trips in
       opening_find claim trips offset behind (subst Bytes (drop-append_seam front behind) (All-drop (λ b. b < 256) (length front) (front ++ behind) low)) place _ refl
-  heading_found all x (HasNoOpening wrong place) low = has_fault (no_opening wrong) place
-  heading_found all x (HasNotCarts {bytes = left} claim carts many) low = has_fault (not_carts claim carts left refl many) refl
-  heading_found all x (HasNoTrip {bytes = left} claim carts front few fewer wrong place) low = has_fault (no_trip claim carts front left few fewer refl wrong) place
+  heading_found all x (no_heading wrong place) low = has_fault (in_heading wrong) place
 
   plan_find : (bytes : List ℕ) → Bytes bytes → PlanFinds f r bytes (plan_reading f r bytes)
   unfolding plan_reading after_heading
   plan_find bytes low = heading_found bytes (heading bytes) (heading_find bytes low) low
 
+  refuses : (bytes : List ℕ) (e : PlanRefusal) (k : ℕ) → PlanFault f r bytes e k → plan_reading f r bytes ≡ Err (record { refusal = e; offset = k })
+  unfolding plan_reading after_heading
+  refuses bytes e k (in_heading wrong) = ap after_heading (heading_refuses bytes e k wrong)
+  refuses bytes e k (barred {e = d} claim trips rest text bars) = ap (plan_reading f r) text ∙ by d bars
+    where
+      opened_few : (d : Refusal) → FewCarts (length trips) → BarredBy (opening f r claim trips) d → plan_reading f r (heading_text claim trips ++ rest) ≡ Err (call_fault d 0)
+      opened_few d few bars =
+          let check = opening f r claim trips in
+          ap after_heading (heading_written claim trips rest few)
+          ∙ ap (λ x. (blame 0 x >> made check at_start (commands r 0 (4 + 5 * length trips) rest)) >>= λ t. Ok (standing check t)) ((barred_exactly check d).1 bars)
+
+      by : (d : Refusal) → BarredBy (opening f r claim trips) d → plan_reading f r (heading_text claim trips ++ rest) ≡ Err (call_fault d 0)
+      by d (by_carts many) = ap after_heading (carts_refused claim (length trips) (flat_map trip_text trips ++ rest) many)
+      by d (by_claim few large) = opened_few d few (by_claim few large)
+      by d (by_places few small off) = opened_few d few (by_places few small off)
+      by d (by_sharing few small on shared) = opened_few d few (by_sharing few small on shared)
+  refuses bytes e k (at_call {k = at} claim trips calls behind rest text calls_text taken wrong) =
+      let check = opening f r claim trips in
+      let offset = 4 + 5 * length trips in
+      let t = after_all check at_start calls in
+      let sound : Sound check = record { floor = floor; rules = law } in
+      let front = length_heading claim trips in
+      let long = simp length-append at (ap length text) in
+      let there = left_within r rest calls behind calls_text in
+      let place : offset + (length behind - length rest) + at ≡ length bytes - length rest + at = omega (arith, front, long, there) in
+      ap (plan_reading f r) text
+      ∙ ap after_heading (heading_written claim trips behind taken.opens.few_carts)
+      ∙ ap (λ x. (blame 0 x >> made check at_start (commands r 0 offset behind)) >>= λ t. Ok (standing check t)) ((opened_exactly check).1 taken.opens)
+      ∙ ap (λ x. x >>= λ t. Ok (standing check t))
+      (calls_lead check law at_start offset rest calls behind calls_text taken.taken
+      ∙ stopped_made check law t (λ call d. (refusal_exactly check sound t (filled check sound t (calls, refl)) call d).1) (offset + (length behind - length rest)) rest e at wrong)
+      ∙ ap (λ j. Err (record { refusal = e; offset = j })) place
+
   pub plan_fault_is_first : (bytes : List ℕ) → Bytes bytes → PlanFaultIsFirst f r bytes
-  plan_fault_is_first bytes low fault e = by _ (plan_find bytes low) e
+  plan_fault_is_first bytes low fault = (λ e. by _ (plan_find bytes low) e, refuses bytes fault.refusal fault.offset)
     where
       by : (x : Result Standing Fault) → PlanFinds f r bytes x → x ≡ Err fault → PlanFault f r bytes fault.refusal fault.offset
       by (Ok s) (comes_to settles) is = absurd (ok_no_err is)

@@ -78,7 +78,7 @@ module _ (f : Floor) (r : Rules) (floor : Lawful f) (rules : LawfulRules r) (byt
   plan_promises = record {
     read_exactly = plan_read_exactly f floor r rules bytes low;
     fault_is_first = plan_fault_is_first f floor r rules bytes low;
-    fault_is_in_file = λ fault is. plan_fault_within f r bytes fault.refusal fault.offset (plan_fault_is_first f floor r rules bytes low fault is);
+    fault_is_in_file = λ fault is. plan_fault_within f r bytes fault.refusal fault.offset ((plan_fault_is_first f floor r rules bytes low fault).0 is);
     least_is_least = λ s n is least. proves_least s n ((plan_read_exactly f floor r rules bytes low s).0 is) least;
     none_open_is_bound = λ s is none. proves_bound s ((plan_read_exactly f floor r rules bytes low s).0 is) none;
     number_is_small = λ s is. number_small s ((plan_read_exactly f floor r rules bytes low s).0 is);

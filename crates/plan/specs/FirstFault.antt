@@ -1,10 +1,11 @@
 -- What the first fault of a plan file is.
-use Rattle.std.specs.Prelude.{◌≡◌, ℕ, ◌+◌, ◌-◌, ◌*◌, ◌<◌, ◌≤◌, true, false, List, [], ◌∷◌, ◌++◌, length, None, Err, ◌≢◌}
+use Rattle.std.specs.Prelude.{◌≡◌, ℕ, ◌+◌, ◌-◌, ◌*◌, ◌<◌, true, false, ◌↔◌, List, [], ◌∷◌, ◌++◌, length, None, Err, ◌≢◌}
 use Rattle.std.specs.List.{flat_map}
 use Rattle.floor.specs.Floor.{Floor}
 use Rattle.motion.specs.declared.trip.Trip.{Trip}
 use Rattle.splits.specs.Rules.{Rules}
-use Rattle.plan.specs.Layout.{AllTaken, CallsText, heading_text, opening_text, trip_text}
+use Rattle.plan.specs.Headings.{heading}
+use Rattle.plan.specs.Layout.{AllTaken, CallsText, FewCarts, heading_text, opening_text, trip_text}
 use Rattle.plan.specs.Reading.{opening, plan_reading}
 use Rattle.plan.specs.declared.fault.Fault.{Fault}
 use Rattle.plan.specs.declared.fault.FileRefusal.{FileRefusal}
@@ -27,8 +28,16 @@ pub data NoCommand (due n : ℕ) : List ℕ → FileRefusal → ℕ → Type 0 w
   other_letter : {letter : ℕ} {bytes : List ℕ} → (letter ≢ due) → NoCommand due n (letter ∷ bytes) Letter 0
   operands_cut : {bytes : List ℕ} → length bytes < n → NoCommand due n (due ∷ bytes) CutShort (length (due ∷ bytes))
 
-abbrev pub FewCarts : ℕ → Type 0
-FewCarts n = (1 ≤ n) × (n ≤ 16)
+-- all before the offset is as a heading is laid down, and what stands there is not
+pub data HeadingFault (bytes : List ℕ) : PlanRefusal → ℕ → Type 0 where
+  no_opening : {e : FileRefusal} {k : ℕ} → NoCommand 79 3 bytes e k → HeadingFault bytes (File e) k
+  not_carts : (claim carts : ℕ) (rest : List ℕ) → bytes ≡ opening_text claim carts ++ rest → (FewCarts carts → ⊥) → HeadingFault bytes (ByCheck Carts) 0
+  no_trip : {e : FileRefusal} {k : ℕ} (claim carts : ℕ) (front : List Trip) (rest : List ℕ) → FewCarts carts → length front < carts
+      → bytes ≡ (opening_text claim carts ++ flat_map trip_text front) ++ rest → NoCommand 67 4 rest e k → HeadingFault bytes (File e) (4 + 5 * length front + k)
+
+-- a heading is refused for a fault exactly when that is its first one
+abbrev pub HeadingFaultIsFirst : List ℕ → Type 0
+HeadingFaultIsFirst bytes = (fault : Fault) → (heading bytes ≡ Err fault) ↔ HeadingFault bytes fault.refusal fault.offset
 
 -- ---- behind the heading
 
@@ -61,16 +70,13 @@ pub data NoGoingOn (o : Opening) (t : Tally) : List ℕ → PlanRefusal → ℕ 
 
 -- all before the offset is as laid down and taken, and what stands there is not
 pub data PlanFault (f : Floor) (r : Rules) (bytes : List ℕ) : PlanRefusal → ℕ → Type 0 where
-  no_opening : {e : FileRefusal} {k : ℕ} → NoCommand 79 3 bytes e k → PlanFault f r bytes (File e) k
-  not_carts : (claim carts : ℕ) (rest : List ℕ) → bytes ≡ opening_text claim carts ++ rest → (FewCarts carts → ⊥) → PlanFault f r bytes (ByCheck Carts) 0
-  no_trip : {e : FileRefusal} {k : ℕ} (claim carts : ℕ) (front : List Trip) (rest : List ℕ) → FewCarts carts → length front < carts
-      → bytes ≡ (opening_text claim carts ++ flat_map trip_text front) ++ rest → NoCommand 67 4 rest e k → PlanFault f r bytes (File e) (4 + 5 * length front + k)
+  in_heading : {e : PlanRefusal} {k : ℕ} → HeadingFault bytes e k → PlanFault f r bytes e k
   barred : {e : Refusal} (claim : ℕ) (trips : List Trip) (rest : List ℕ) → bytes ≡ heading_text claim trips ++ rest
       → BarredBy (opening f r claim trips) e → PlanFault f r bytes (ByCheck e) 0
   at_call : {e : PlanRefusal} {k : ℕ} (claim : ℕ) (trips : List Trip) (calls : List Call) (behind rest : List ℕ) → bytes ≡ heading_text claim trips ++ behind
       → CallsText r rest calls behind → AllTaken (opening f r claim trips) calls → NoGoingOn (opening f r claim trips) (after_all (opening f r claim trips) at_start calls) rest e k
       → PlanFault f r bytes e (length bytes - length rest + k)
 
--- a fault is the first one, and stands where it says
+-- a plan is refused for a fault exactly when that is its first one
 abbrev pub PlanFaultIsFirst : Floor → Rules → List ℕ → Type 0
-PlanFaultIsFirst f r bytes = (fault : Fault) → plan_reading f r bytes ≡ Err fault → PlanFault f r bytes fault.refusal fault.offset
+PlanFaultIsFirst f r bytes = (fault : Fault) → (plan_reading f r bytes ≡ Err fault) ↔ PlanFault f r bytes fault.refusal fault.offset

@@ -1,10 +1,11 @@
 -- The layout of a plan file.
-use Rattle.std.specs.Prelude.{◌≡◌, ℕ, ◌-◌, ◌≤◌, true, ◌↔◌, List, [], ◌∷◌, ◌++◌, length, take, Some, Ok, All}
+use Rattle.std.specs.Prelude.{◌≡◌, ℕ, ◌+◌, ◌-◌, ◌*◌, ◌≤◌, true, ◌↔◌, List, [], ◌∷◌, ◌++◌, length, take, Some, Ok, All}
 use Rattle.std.specs.List.{flat_map}
 use Rattle.floor.specs.Floor.{Floor}
 use Rattle.mapfile.specs.ListLayout.{two_bytes}
 use Rattle.motion.specs.declared.trip.Trip.{Trip}
 use Rattle.splits.specs.Rules.{Rules}
+use Rattle.plan.specs.Headings.{Heading, heading}
 use Rattle.plan.specs.Reading.{opening, plan_reading}
 use Rattle.tally.specs.CallAnswers.{after_all, answers}
 use Rattle.tally.specs.Calls.{Call, show, split, close}
@@ -24,6 +25,14 @@ opening_text claim carts = 79 ∷ (two_bytes claim ++ (carts ∷ []))
 -- and then the trip of each cart
 abbrev pub heading_text : ℕ → List Trip → List ℕ
 heading_text claim trips = opening_text claim (length trips) ++ flat_map trip_text trips
+
+abbrev pub FewCarts : ℕ → Type 0
+FewCarts n = (1 ≤ n) × (n ≤ 16)
+
+-- a heading is read exactly when the bytes are its text, for 1 to 16 carts, and those that are left behind it
+abbrev pub HeadingReadExactly : List ℕ → Type 0
+HeadingReadExactly bytes =
+    (h : Heading) → (heading bytes ≡ Ok h) ↔ (FewCarts (length h.trips) × (bytes ≡ heading_text h.claim h.trips ++ h.behind.bytes) × (h.behind.at ≡ 4 + 5 * length h.trips))
 
 -- The bytes are the calls' texts one after the other, and then those that are left. A route is `R`, its cart, how many
 -- steps it has, and its places; a split is its letter and its operands, as many of the bytes behind it as the rules

@@ -86,7 +86,7 @@ module _ (map plan : List ℕ) (map_low : Bytes map) (low : Bytes plan) where
     where
       in_the_plan : (hall : Hall) → MapText hall map → (x : Result Standing InPlan) → plan_reading (hall_floor hall) own plan ≡ x → of_plan x ≡ Err f → FilesFault map plan f
       in_the_plan hall text (Ok s) read e = absurd (ok_no_err e)
-      in_the_plan hall text (Err g) read e = subst (FilesFault map plan) (err_same e) (in_plan hall text (plan_fault_is_first (hall_floor hall) (hall_lawful hall map text) own own_lawful plan low g read))
+      in_the_plan hall text (Err g) read e = subst (FilesFault map plan) (err_same e) (in_plan hall text ((plan_fault_is_first (hall_floor hall) (hall_lawful hall map text) own own_lawful plan low g).0 read))
 
       by : (m : Result Hall MapFault) → map_reading map ≡ m → (of_map m >>= λ h. of_plan (plan_reading (hall_floor h) own plan)) ≡ Err f → FilesFault map plan f
       by (Ok hall) read e = in_the_plan hall ((map_exactly hall).0 read) _ refl e
