@@ -1,9 +1,9 @@
 -- The eight bytes that an outcome is told by.
-use Rattle.std.specs.Prelude.{ℕ, List, [], ◌∷◌, ◌++◌, Ok, Err, Result}
+use Rattle.std.specs.Prelude.{ℕ, List, ◌∷◌, ◌++◌, Ok, Err, Result}
 use Rattle.std.specs.Int.{bytes_high_first}
 use Rattle.report.specs.Faults.{layer_number, layer_of, number_of, offset_of}
 use Rattle.report.specs.declared.fault.Fault.{Fault}
-use Rattle.plan.specs.Promises.{number_in}
+use Rattle.tally.specs.Standings.{number_in}
 use Rattle.tally.specs.declared.standing.Standing.{Standing}
 use Rattle.tally.specs.declared.standing.Verdict.{Verdict}
 use Rattle.tally.specs.declared.standing.Verdict.TheVariants.{Barred, Open, Unshown, OtherSum, Least}

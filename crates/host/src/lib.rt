@@ -5,7 +5,7 @@ mod outcome;
 
 ghost use Rattle.std.specs.Prelude.{◌≡◌};
 ghost use Rattle.host.specs.Entry.{EntryAnswers};
-ghost use Rattle.report.specs.Promises.{FilesPromises};
+ghost use Rattle.report.specs.SoundAndComplete.{FilesSoundAndComplete};
 
 use outcome::outcome_of;
 use std::alloc::Global;
@@ -18,7 +18,7 @@ const MOST_BYTES: usize = 65536;
 #[unsafe(no_mangle)]
 pub extern "C" fn settle_files(heap: Global, map: &[u8], plan: &[u8], out: &mut [u8]) -> u32
     ensures answers { EntryAnswers map.now plan.now out.old out.new result }
-    ensures keeps_its_promises { FilesPromises map.now plan.now }
+    ensures sound_and_complete { FilesSoundAndComplete map.now plan.now }
 {
     if out.len() < 8 || map.len() > MOST_BYTES || plan.len() > MOST_BYTES {
         return 24;

@@ -1,6 +1,6 @@
 ghost use Rattle.std.specs.Prelude.{◌≡◌, length, IfSome};
 ghost use Rattle.host.specs.Outcomes.{fault_bytes, kind_of, outcome_bytes, standing_bytes};
-ghost use Rattle.plan.specs.Promises.{number_in};
+ghost use Rattle.tally.specs.Standings.{number_in};
 ghost use Rattle.report.specs.Files.{files_reading};
 
 use report::{Fault, ReportError, check_files};

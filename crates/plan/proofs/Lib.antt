@@ -10,4 +10,4 @@ pub mod CallsWritten
 pub mod PlanFinds
 pub mod FaultPlaces
 pub mod Numbers
-pub mod Promising
+pub mod SoundAndComplete

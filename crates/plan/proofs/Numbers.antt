@@ -3,10 +3,9 @@ use Rattle.std.proofs.Common.{◌≡◌, ℕ, zero, suc, ◌*◌, ◌≤◌, Boo
 use Rattle.std.proofs.lemmas.List.Elements.{All-contains}
 use Rattle.motion.specs.Listed.{steps}
 use Rattle.motion.specs.Routes.{total}
-use Rattle.plan.specs.Promises.{number_in}
 use Rattle.tally.specs.CallAnswers.{Reached}
 use Rattle.tally.specs.Openings.{Opening, Openable, RouteOf, Sound, carts}
-use Rattle.tally.specs.Standings.{places_shown, shown_sum, standing, unshown, verdict_of}
+use Rattle.tally.specs.Standings.{number_in, places_shown, shown_sum, standing, unshown, verdict_of}
 use Rattle.tally.specs.Tallies.{Tally, is_shown, shown_of}
 use Rattle.tally.specs.declared.standing.Verdict.TheVariants.{Open, Unshown, OtherSum, Least}
 use Rattle.tally.proofs.Finding.{found}

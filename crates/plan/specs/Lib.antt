@@ -5,4 +5,4 @@ pub mod Cursors
 pub mod Reading
 pub mod Layout
 pub mod FirstFault
-pub mod Promises
+pub mod SoundAndComplete

@@ -2,7 +2,7 @@ ghost use Rattle.std.specs.Prelude.{◌≡◌};
 ghost use Rattle.checking.specs.Books.{tally_in};
 ghost use Rattle.checking.specs.Checks.{opening_of, Answers};
 ghost use Rattle.plan.specs.Commands.{call_of};
-ghost use Rattle.plan.specs.Promises.{PlanPromises};
+ghost use Rattle.plan.specs.SoundAndComplete.{PlanSoundAndComplete};
 ghost use Rattle.plan.specs.Reading.{made_if_open, plan_reading};
 ghost use Rattle.std.specs.Result.{result_map_both};
 
@@ -26,7 +26,7 @@ pub fn check_plan<M: FloorMap, R: SplitRule>(
     bytes: &[u8],
 ) -> Result<Standing, Fault>
     ensures reads { result ≡ plan_reading (M.FloorMap.floor map.now) (R.SplitRule.rules rules.now) bytes.now }
-    ensures keeps_its_promises { PlanPromises (M.FloorMap.floor map.now) (R.SplitRule.rules rules.now) bytes.now }
+    ensures sound_and_complete { PlanSoundAndComplete (M.FloorMap.floor map.now) (R.SplitRule.rules rules.now) bytes.now }
 {
     let heading = read_heading(bytes)?;
     let terms = Terms {

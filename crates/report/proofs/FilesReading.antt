@@ -13,15 +13,15 @@ use Rattle.mapfile.proofs.ListLayout.{list_read_exactly, list_fault_is_first}
 use Rattle.mapfile.proofs.MapFiles.{grid_exactly, grid_first, list_exactly, list_first}
 use Rattle.mapfile.specs.MapFiles.{is_list, MapFaultIsFirst, MapReadExactly, MapText, map_reading}
 use Rattle.mapfile.specs.declared.fault.Fault.{Fault as MapFault}
-use Rattle.plan.specs.Promises.{PlanPromises}
+use Rattle.plan.specs.SoundAndComplete.{PlanSoundAndComplete}
 use Rattle.plan.specs.Reading.{plan_reading}
 use Rattle.plan.specs.declared.fault.Fault.{Fault as InPlan}
 use Rattle.plan.proofs.FaultPlaces.{plan_fault_within}
 use Rattle.plan.proofs.PlanFinds.{plan_fault_is_first, plan_read_exactly}
-use Rattle.plan.proofs.Promising.{plan_promises}
+use Rattle.plan.proofs.SoundAndComplete.{plan_sound_and_complete}
 use Rattle.report.specs.Faults.{file_of, offset_of}
 use Rattle.report.specs.Files.{FilesFault, FilesFaultIsFirst, FilesReadExactly, FilesSettle, files_reading, in_map, in_plan, of_map, of_plan}
-use Rattle.report.specs.Promises.{FilesPromises, HallOf}
+use Rattle.report.specs.SoundAndComplete.{FilesSoundAndComplete, HallOf}
 use Rattle.report.specs.declared.fault.Fault.{Fault}
 use Rattle.splits.specs.BesideRuleLemmas.{beside_lawful}
 use Rattle.splits.specs.CorridorRules.{corridor_lawful}
@@ -97,8 +97,8 @@ module _ (map plan : List ℕ) (map_low : Bytes map) (low : Bytes plan) where
   fault_within f (in_map {f = g} wrong) = map_fault_within (is_list map) map g.refusal g.offset wrong
   fault_within f (in_plan {f = g} hall text wrong) = plan_fault_within (hall_floor hall) own plan g.refusal g.offset wrong
 
-  pub files_promises : FilesPromises map plan
-  files_promises = record {
+  pub files_sound_and_complete : FilesSoundAndComplete map plan
+  files_sound_and_complete = record {
     read_exactly = files_read_exactly;
     fault_is_first = files_fault_is_first;
     fault_is_in_file = λ f is. fault_within f (files_fault_is_first f is);
@@ -110,8 +110,8 @@ module _ (map plan : List ℕ) (map_low : Bytes map) (low : Bytes plan) where
         (done.0, on_hall h.hall h.text ∙ ap of_plan done.1, done.2);
   }
     where
-      kept : (hall : Hall) → MapText hall map → PlanPromises (hall_floor hall) own plan
-      kept hall text = plan_promises (hall_floor hall) own (hall_lawful hall map text) own_lawful plan low
+      kept : (hall : Hall) → MapText hall map → PlanSoundAndComplete (hall_floor hall) own plan
+      kept hall text = plan_sound_and_complete (hall_floor hall) own (hall_lawful hall map text) own_lawful plan low
 
       hall_of : {s : Standing} → Stands s → HallOf map
       hall_of st = record { hall = st.hall; text = st.text }

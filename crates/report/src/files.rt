@@ -1,7 +1,7 @@
 ghost use Rattle.maps.specs.Made.{Made};
 ghost use Rattle.report.specs.Faults.{fault_of};
 ghost use Rattle.report.specs.Files.{files_reading};
-ghost use Rattle.report.specs.Promises.{FilesPromises};
+ghost use Rattle.report.specs.SoundAndComplete.{FilesSoundAndComplete};
 
 use crate::fault::ReportError;
 use mapfile::read_map;
@@ -16,7 +16,7 @@ use tally::Standing;
 #[tactic(auto, unfolding(crate::specs::Files::files_reading))]
 pub fn check_files(heap: Global, map: &[u8], plan: &[u8]) -> Result<Standing, ReportError>
     ensures reads { Made (λ standing. standing) fault_of (files_reading map.now plan.now) result }
-    ensures keeps_its_promises { FilesPromises map.now plan.now }
+    ensures sound_and_complete { FilesSoundAndComplete map.now plan.now }
 {
     let map = read_map(heap, map)?;
     let mut work = Workspace::new(heap)?;

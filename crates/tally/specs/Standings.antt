@@ -29,13 +29,23 @@ verdict_of (Err e) branches missing sum claim = Barred e
 verdict_of (Ok x) branches missing sum claim =
     cond (nat_le 1 branches) (Open branches) (cond (nat_le 1 missing) (Unshown missing) (cond (sum == claim) (Least claim) (OtherSum sum)))
 
+abbrev pub word_of : Verdict → List ℕ
+word_of (Barred e) = codes "barred "
+word_of (Open branches) = codes "open "
+word_of (Unshown carts) = codes "unshown "
+word_of (OtherSum sum) = codes "othersum "
+word_of (Least claim) = codes "least "
+
+abbrev pub number_in : Verdict → ℕ
+number_in (Barred e) = number_of e
+number_in (Open branches) = branches
+number_in (Unshown carts) = carts
+number_in (OtherSum sum) = sum
+number_in (Least claim) = claim
+
 -- the word and the number of a verdict
 abbrev pub text_of : Verdict → List ℕ
-text_of (Barred e) = codes "barred " ++ decimal (number_of e)
-text_of (Open branches) = codes "open " ++ decimal branches
-text_of (Unshown carts) = codes "unshown " ++ decimal carts
-text_of (OtherSum sum) = codes "othersum " ++ decimal sum
-text_of (Least claim) = codes "least " ++ decimal claim
+text_of v = word_of v ++ decimal (number_in v)
 
 abbrev pub standing : Opening → Tally → Standing
 standing o t = record {

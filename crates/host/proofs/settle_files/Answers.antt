@@ -1,12 +1,12 @@
 use Rattle.mapfile.proofs.ListSteps.{bytes_fit}
-use Rattle.report.proofs.FilesReading.{files_promises}
+use Rattle.report.proofs.FilesReading.{files_sound_and_complete}
 use Rattle.host.proofs.settle_files.Goals as goal
 
-pub returns-then-out-lt8-clause-keeps_its_promises : goal.returns-then-out-lt8-clause-keeps_its_promises
-returns-then-out-lt8-clause-keeps_its_promises c = files_promises _ _ (bytes_fit _ c.type_inv.map) (bytes_fit _ c.type_inv.plan)
+pub returns-then-out-lt8-clause-sound_and_complete : goal.returns-then-out-lt8-clause-sound_and_complete
+returns-then-out-lt8-clause-sound_and_complete c = files_sound_and_complete _ _ (bytes_fit _ c.type_inv.map) (bytes_fit _ c.type_inv.plan)
 
-pub returns-in_default-clause-keeps_its_promises : goal.returns-in_default-clause-keeps_its_promises
-returns-in_default-clause-keeps_its_promises c = files_promises _ _ (bytes_fit _ c.type_inv.map) (bytes_fit _ c.type_inv.plan)
+pub returns-in_default-clause-sound_and_complete : goal.returns-in_default-clause-sound_and_complete
+returns-in_default-clause-sound_and_complete c = files_sound_and_complete _ _ (bytes_fit _ c.type_inv.map) (bytes_fit _ c.type_inv.plan)
 
-pub returns-clause-keeps_its_promises : goal.returns-clause-keeps_its_promises
-returns-clause-keeps_its_promises c = files_promises _ _ (bytes_fit _ c.type_inv.map) (bytes_fit _ c.type_inv.plan)
+pub returns-clause-sound_and_complete : goal.returns-clause-sound_and_complete
+returns-clause-sound_and_complete c = files_sound_and_complete _ _ (bytes_fit _ c.type_inv.map) (bytes_fit _ c.type_inv.plan)

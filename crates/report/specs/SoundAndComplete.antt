@@ -4,7 +4,8 @@ use Rattle.maps.specs.AnyMaps.{Hall, hall_floor}
 use Rattle.mapfile.specs.MapFiles.{MapText}
 use Rattle.motion.specs.declared.trip.Trip.{Trip}
 use Rattle.plan.specs.Layout.{PlanText}
-use Rattle.plan.specs.Promises.{ProvesBound, ProvesLeast, number_in}
+use Rattle.plan.specs.SoundAndComplete.{ProvesBound, ProvesLeast}
+use Rattle.tally.specs.Standings.{number_in}
 use Rattle.plan.specs.Reading.{opening}
 use Rattle.report.specs.Faults.{file_of, offset_of}
 use Rattle.report.specs.Files.{FilesFaultIsFirst, FilesReadExactly, files_reading}
@@ -21,7 +22,7 @@ pub record HallOf (map : List ℕ) : Type 0 where
   pub hall : Hall
   pub text : MapText hall map
 
-pub record FilesPromises (map plan : List ℕ) : Type 0 where
+pub record FilesSoundAndComplete (map plan : List ℕ) : Type 0 where
   -- They come to a standing exactly when the map's bytes are the text of a hall, and the plan's that of a plan whose
   -- calls are all taken on that hall's floor; and then it is that run's settlement.
   pub read_exactly : FilesReadExactly map plan

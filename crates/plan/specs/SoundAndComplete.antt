@@ -12,11 +12,10 @@ use Rattle.tally.specs.Calls.{Call}
 use Rattle.tally.specs.Laws.{Complete, NoRival, ShownLeast}
 use Rattle.tally.specs.Openings.{Openable}
 use Rattle.tally.specs.Plans.{CallsOf, HonestPlan}
-use Rattle.tally.specs.Refusals.{number_of as refusal_number}
+use Rattle.tally.specs.Standings.{number_in}
 use Rattle.tally.specs.Tallies.{at_start}
 use Rattle.tally.specs.declared.standing.Standing.{Standing}
-use Rattle.tally.specs.declared.standing.Verdict.{Verdict}
-use Rattle.tally.specs.declared.standing.Verdict.TheVariants.{Barred, Open, Unshown, OtherSum, Least}
+use Rattle.tally.specs.declared.standing.Verdict.TheVariants.{Least}
 
 -- the bytes are a plan that claims n for these trips, and its calls
 pub record PlanOf (r : Rules) (bytes : List ℕ) (n : ℕ) : Type 0 where
@@ -37,16 +36,8 @@ pub record ProvesBound (f : Floor) (r : Rules) (bytes : List ℕ) : Type 0 where
   pub plan : PlanOf r bytes claim
   pub no_rival : NoRival (opening f r claim plan.trips)
 
--- the number behind a verdict's word
-abbrev pub number_in : Verdict → ℕ
-number_in (Barred e) = refusal_number e
-number_in (Open branches) = branches
-number_in (Unshown carts) = carts
-number_in (OtherSum sum) = sum
-number_in (Least claim) = claim
-
 -- What holds of the bytes of a plan, whatever they are.
-pub record PlanPromises (f : Floor) (r : Rules) (bytes : List ℕ) : Type 0 where
+pub record PlanSoundAndComplete (f : Floor) (r : Rules) (bytes : List ℕ) : Type 0 where
   -- It comes to a standing exactly when it is laid out as a plan whose calls are all taken, and then it is that run's
   -- settlement.
   pub read_exactly : PlanReadExactly f r bytes

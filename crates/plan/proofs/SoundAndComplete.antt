@@ -7,7 +7,7 @@ use Rattle.floor.proofs.Chains.{ok_same}
 use Rattle.mapfile.specs.ListLayout.{Bytes}
 use Rattle.splits.specs.Rules.{Rules, LawfulRules}
 use Rattle.plan.specs.Layout.{Settles}
-use Rattle.plan.specs.Promises.{PlanOf, PlanPromises, ProvesBound, ProvesLeast, number_in}
+use Rattle.plan.specs.SoundAndComplete.{PlanOf, PlanSoundAndComplete, ProvesBound, ProvesLeast}
 use Rattle.plan.specs.Reading.{opening}
 use Rattle.plan.proofs.FaultPlaces.{plan_fault_within}
 use Rattle.plan.proofs.Numbers.{standing_small}
@@ -15,7 +15,7 @@ use Rattle.plan.proofs.PlanFinds.{plan_fault_is_first, plan_read_exactly}
 use Rattle.tally.specs.CallAnswers.{after_all}
 use Rattle.tally.specs.Laws.{Holds}
 use Rattle.tally.specs.Openings.{Opening, opened}
-use Rattle.tally.specs.Standings.{standing, verdict_of}
+use Rattle.tally.specs.Standings.{number_in, standing, verdict_of}
 use Rattle.tally.specs.declared.refusal.Refusal.{Refusal}
 use Rattle.tally.specs.Tallies.{Tally, at_start}
 use Rattle.tally.specs.declared.standing.Standing.{Standing}
@@ -74,8 +74,8 @@ module _ (f : Floor) (r : Rules) (floor : Lawful f) (rules : LawfulRules r) (byt
       subst (λ u. number_in u.verdict ≤ 4080) (stands s settles)
       (standing_small (o s settles) (record { floor = floor; rules = rules }) settles.all_taken.opens (t s settles) (settles.calls, refl))
 
-  pub plan_promises : PlanPromises f r bytes
-  plan_promises = record {
+  pub plan_sound_and_complete : PlanSoundAndComplete f r bytes
+  plan_sound_and_complete = record {
     read_exactly = plan_read_exactly f floor r rules bytes low;
     fault_is_first = plan_fault_is_first f floor r rules bytes low;
     fault_is_in_file = λ fault is. plan_fault_within f r bytes fault.refusal fault.offset ((plan_fault_is_first f floor r rules bytes low fault).0 is);
