@@ -6,13 +6,23 @@
 # SECONDS is the least time of each measurement, 1 if not given. docs/BENCHMARKS.md has a table and what it says.
 set -eu
 cd "$(dirname "$0")/.."
-(cd crates/host && rt lib >/dev/null 2>&1)
+
+# Runs a command, and prints what it said only if it fails.
+quietly() {
+    if ! log=$("$@" 2>&1); then
+        printf '%s\n' "$log" >&2
+        exit 1
+    fi
+}
+
+library() { cd crates/host && rt lib; }
+quietly library
 out=out/bench
 CXXFLAGS="-O3 -march=native" sh tests/build.sh "$out"
 
 # A hall of a seed, a kind, a width, a height and so many carts.
 hall() {
-    "$out/generate" "$out/$2-$5" "$1" "$2" "$3" "$4" "$5" 400 >/dev/null 2>&1
+    quietly "$out/generate" "$out/$2-$5" "$1" "$2" "$3" "$4" "$5" 400
     made="$made $out/$2-$5"
 }
 made=
