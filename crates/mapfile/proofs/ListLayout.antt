@@ -3,7 +3,7 @@ use Rattle.std.proofs.Common.{◌≡◌, ℕ, ◌+◌, ◌<◌, not, eqb, List, 
 use Rattle.floor.proofs.Chains.{ok_no_err, err_same, bind_ok, bind_err, bind_at, passed, refused_or_passed}
 use Rattle.maps.specs.Networks.{Network, Proper, bare, founding}
 use Rattle.maps.specs.declared.connection.Connection.{Connection}
-use Rattle.maps.proofs.Founding.{founding_ok, founding_gives}
+use Rattle.maps.proofs.Founding.{founding_ok, founding_gives, founding_tells}
 use Rattle.maps.specs.declared.refusal.MapRefusal.{MapRefusal}
 use Rattle.maps.specs.declared.refusal.MapRefusal.TheVariants.{Letter, CutShort}
 use Rattle.mapfile.specs.Faults.{fault}
@@ -90,7 +90,7 @@ begins_badly (l ∷ []) f h = cut_count l [] f (omega arith) h
 begins_badly (l ∷ a ∷ []) f h = cut_count l (a ∷ []) f (omega arith) h
 begins_badly (l ∷ a ∷ b ∷ bytes) f h =
     ⊎_elim (λ no. begins_wrong _ Letter 0 f no.1 (no_count (other_letter l 80 no.0)))
-    (λ yes. let why = blame_err 0 (founding (word a b)) f yes.1 in subst (λ l. ListFault (l ∷ a ∷ b ∷ bytes) f.refusal f.offset) (sym (letter_from_test l 80 yes.0)) (begins_wrong _ why.0 0 f why.2 (count_refused why.1)))
+    (λ yes. let why = blame_err 0 (founding (word a b)) f yes.1 in subst (λ l. ListFault (l ∷ a ∷ b ∷ bytes) f.refusal f.offset) (sym (letter_from_test l 80 yes.0)) (begins_wrong _ why.0 0 f why.2 (count_refused ((founding_tells.refused (word a b) why.0).0 why.1))))
     (refused_or_passed (not (eqb l 80)) (fault Letter 0) _ f h)
 
 goes_wrong : (bytes : List ℕ) (n : Network) (f : Fault) (b : Begins bytes n) → Stops (bare (word b.high b.low)) 3 b.rest f → ListFault bytes f.refusal f.offset

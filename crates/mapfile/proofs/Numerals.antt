@@ -1,11 +1,12 @@
 -- A line with a number is read exactly where a numeral and the line's end stand, and a fault is where neither a digit
 -- that may come nor the line's end stands.
 use Rattle.std.proofs.Common.{◌≡◌, ℕ, zero, suc, ◌+◌, ◌-◌, ◌*◌, ◌<◌, ◌≤◌, cond, ◌&&◌, eqb, leb, List, [], ◌∷◌, ◌++◌, length, take, IfSome, Some, None, Ok, Err, Decides, fold, All, Option, refl, ap, zero-add, arith, MatchResult}
+use Rattle.maps.specs.Grids.{InGauge}
 use Rattle.maps.specs.declared.refusal.MapRefusal.TheVariants.{Headless, Gauge}
 use Rattle.floor.proofs.Chains.{then_tells, cond_tells, unless_tells}
 use Rattle.mapfile.specs.Faults.{fault}
 use Rattle.mapfile.specs.GridFiles.{Number, more_digits, number_line, size_line}
-use Rattle.mapfile.specs.GridLayout.{Digit, Numeral, NoNumber, InGauge}
+use Rattle.mapfile.specs.GridLayout.{Digit, Numeral, NoNumber}
 use Rattle.mapfile.specs.declared.fault.Fault.{Fault}
 use Rattle.std.proofs.lemmas.Bool.{leb-true, le-leb}
 use Rattle.std.proofs.lemmas.Bool.Decides.{Decides-and, Decides-eqb}

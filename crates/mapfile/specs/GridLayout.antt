@@ -1,6 +1,6 @@
 -- The layout of a grid file, and what its first fault is.
 use Rattle.std.specs.Prelude.{◌≡◌, ℕ, ◌+◌, ◌-◌, ◌*◌, ◌<◌, ◌≤◌, true, ◌||◌, ◌↔◌, List, [], ◌∷◌, ◌++◌, map, length, take, IfSome, Ok, Err, fold, All, ◌≢◌}
-use Rattle.maps.specs.Grids.{Grid, Sized}
+use Rattle.maps.specs.Grids.{Grid, InGauge, Sized}
 use Rattle.maps.specs.Signs.{is_free, is_blocked}
 use Rattle.maps.specs.declared.refusal.MapRefusal.{MapRefusal}
 use Rattle.maps.specs.declared.refusal.MapRefusal.TheVariants.{Headless, Gauge, Ragged, StrangeSign}
@@ -62,9 +62,6 @@ pub record NoNumber (bytes : List ℕ) (k : ℕ) : Type 0 where
   pub there : k ≤ length bytes
   pub digits : All Digit (take k bytes)
   pub departs : IfSome (slice_get bytes k) (λ b. (k < 3 → Digit b → ⊥) × (1 ≤ k → b ≢ 10))
-
-abbrev pub InGauge : ℕ → Type 0
-InGauge n = (1 ≤ n) × (n ≤ 32)
 
 -- the heading up to the end of the height's line
 pub record ToHeight (height : ℕ) (front : List ℕ) : Type 0 where

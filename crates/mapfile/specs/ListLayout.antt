@@ -1,6 +1,6 @@
 -- The layout of a list file, and what its first fault is.
 use Rattle.std.specs.Prelude.{◌≡◌, ℕ, ◌+◌, ◌/◌, ◌%◌, ◌<◌, ◌↔◌, List, [], ◌∷◌, ◌++◌, length, Ok, Err, All, ◌≢◌}
-use Rattle.maps.specs.Networks.{Network, Proper, founding, joining}
+use Rattle.maps.specs.Networks.{Network, NotFounded, NotJoined, Proper}
 use Rattle.maps.specs.declared.connection.Connection.{Connection}
 use Rattle.maps.specs.declared.refusal.MapRefusal.{MapRefusal}
 use Rattle.maps.specs.declared.refusal.MapRefusal.TheVariants.{Letter, CutShort}
@@ -36,13 +36,13 @@ pub data NoBeginning : List ℕ → MapRefusal → ℕ → Type 0 where
   empty : NoBeginning [] CutShort 0
   no_count : {letter : ℕ} {bytes : List ℕ} → (letter ≢ 80) → NoBeginning (letter ∷ bytes) Letter 0
   count_cut : {bytes : List ℕ} → length bytes < 2 → NoBeginning (80 ∷ bytes) CutShort (length (80 ∷ bytes))
-  count_refused : {a b : ℕ} {bytes : List ℕ} {e : MapRefusal} → founding (word a b) ≡ Err e → NoBeginning (80 ∷ a ∷ b ∷ bytes) e 0
+  count_refused : {a b : ℕ} {bytes : List ℕ} {e : MapRefusal} → NotFounded (word a b) e → NoBeginning (80 ∷ a ∷ b ∷ bytes) e 0
 
 -- a file that has come to this network cannot go on like this; the offset counts from here
 pub data NoContinuing (n : Network) : List ℕ → MapRefusal → ℕ → Type 0 where
   no_connection : {letter : ℕ} {bytes : List ℕ} → (letter ≢ 87) → NoContinuing n (letter ∷ bytes) Letter 0
   places_cut : {bytes : List ℕ} → length bytes < 4 → NoContinuing n (87 ∷ bytes) CutShort (length (87 ∷ bytes))
-  connection_refused : {a b c d : ℕ} {bytes : List ℕ} {e : MapRefusal} → joining n (connection a b c d) ≡ Err e → NoContinuing n (87 ∷ a ∷ b ∷ c ∷ d ∷ bytes) e 0
+  connection_refused : {a b c d : ℕ} {bytes : List ℕ} {e : MapRefusal} → NotJoined n (connection a b c d) e → NoContinuing n (87 ∷ a ∷ b ∷ c ∷ d ∷ bytes) e 0
 
 -- all before the offset is a network's text, and what stands there does not go on with it
 pub data ListFault (bytes : List ℕ) : MapRefusal → ℕ → Type 0 where

@@ -1,6 +1,6 @@
 -- A grid of free and blocked cells. It means a floor: cells are places, counted row by row, and free cells that
 -- lie side by side are neighbours.
-use Rattle.std.specs.Prelude.{◌≡◌, ℕ, ◌+◌, ◌-◌, ◌*◌, ◌/◌, ◌%◌, ◌≤◌, Bool, true, false, cond, not, ◌&&◌, ◌⊎◌, ◌↔◌, List, [], ◌∷◌, ◌++◌, length, Ok, filter, Result, ◌==◌, nat_le, nat_lt, slice_index_or}
+use Rattle.std.specs.Prelude.{◌≡◌, ℕ, ◌+◌, ◌-◌, ◌*◌, ◌/◌, ◌%◌, ◌≤◌, Bool, true, false, cond, not, ◌&&◌, ◌⊎◌, ◌↔◌, List, [], ◌∷◌, ◌++◌, length, Ok, Err, filter, Result, ◌==◌, ◌≢◌, nat_le, nat_lt, slice_index_or}
 use Rattle.floor.specs.Checks.{refuse, ◌>>◌}
 use Rattle.floor.specs.Floor.{Floor, Joined}
 use Rattle.maps.specs.declared.refusal.MapRefusal.{MapRefusal}
@@ -70,6 +70,24 @@ gridding height width free = do
   refuse (not (length free == height * width)) Ragged
   Ok (record { height = height; width = width; free = free })
 
+-- ---- why one is refused
+
+-- as many rows, or columns, as a grid may have
+abbrev pub InGauge : ℕ → Type 0
+InGauge n = (1 ≤ n) × (n ≤ 32)
+
+-- why no grid is made: of the two the first that fails
+pub data NotGridded (g : Grid) : MapRefusal → Type 0 where
+  off_gauge : (InGauge g.height × InGauge g.width → ⊥) → NotGridded g Gauge
+  not_filled : InGauge g.height → InGauge g.width → (length g.free ≢ g.height * g.width) → NotGridded g Ragged
+
+-- ---- what the tests tell
+
 -- the tests refuse exactly what is beyond the limits
 abbrev pub GriddingIsSized : Type 0
 GriddingIsSized = (g : Grid) → (gridding g.height g.width g.free ≡ Ok g) ↔ Sized g
+
+-- each answer, and when it is given
+pub record GriddingTells : Type 0 where
+  pub taken : GriddingIsSized
+  pub refused : (g : Grid) (e : MapRefusal) → (gridding g.height g.width g.free ≡ Err e) ↔ NotGridded g e

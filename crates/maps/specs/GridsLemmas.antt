@@ -9,8 +9,8 @@ use Rattle.std.proofs.lemmas.List.Kept.{AllPairs-cons, AllPairs-filter}
 use Rattle.std.proofs.lemmas.List.{get_or_past}
 use Rattle.std.proofs.lemmas.Bool.{both_ways, cases_lt, cond_both, eqb-false, le-ltb, ltb-false, ne_eqb}
 use Rattle.maps.specs.Grids.{Grid, NeighboursAreBeside, NextTo, SideBySide, Sized, above, around, below, beside, free_at, grid_floor, left, right}
-use Rattle.maps.specs.Cells.{next_from_step_right, step_down_from_sum, step_right_from_previous, step_right_to_next, sum_from_step_down}
-use Rattle.maps.specs.Lists.{Differ, all_unless, cond_has, differ_nil, differ_unless, has_from_cond, has_from_kept_by, has_unless, kept_by_has, length_kept_by_most, length_unless, once_from_differ}
+use Rattle.maps.specs.CellsLemmas.{next_from_step_right, step_down_from_sum, step_right_from_previous, step_right_to_next, sum_from_step_down}
+use Rattle.maps.specs.ListsLemmas.{Differ, all_unless, cond_has, differ_nil, differ_unless, has_from_cond, has_from_kept_by, has_unless, kept_by_has, length_kept_by_most, length_unless, once_from_differ}
 
 -- ---- the cells beside a cell
 

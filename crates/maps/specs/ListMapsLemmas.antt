@@ -10,7 +10,7 @@ use Rattle.maps.specs.Networks.{Proper, partners, network_floor, with_connection
 use Rattle.maps.specs.Tables.{listed, row_of}
 use Rattle.maps.specs.declared.connection.Connection.{Connection}
 use Rattle.maps.specs.declared.list.ListMap.{ListMap}
-use Rattle.maps.specs.Joining.{fits_from_joining, fit_first, fit_second, joining_is_proper}
+use Rattle.maps.specs.JoiningLemmas.{fits_from_joining, fit_first, fit_second, joining_is_proper}
 use Rattle.maps.specs.NetworksLemmas.{lawful_out}
 use Rattle.maps.specs.TablesLemmas.{length_listed, row_read, row_push, tied_push}
 

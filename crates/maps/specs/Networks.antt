@@ -1,6 +1,6 @@
 -- A network: places and the connections between them. It means a floor whose neighbours come in the order of
 -- the connections.
-use Rattle.std.specs.Prelude.{◌≡◌, ℕ, ◌≤◌, cond, not, ◌&&◌, ◌||◌, ◌⊎◌, ◌↔◌, List, [], ◌∷◌, ◌++◌, length, Ok, Result, ◌==◌, nat_le}
+use Rattle.std.specs.Prelude.{◌≡◌, ℕ, ◌≤◌, cond, not, ◌&&◌, ◌||◌, ◌⊎◌, ◌↔◌, List, [], ◌∷◌, ◌++◌, length, Ok, Err, Result, ◌==◌, nat_le}
 use Rattle.floor.specs.Checks.{refuse, ◌>>◌}
 use Rattle.floor.specs.Floor.{Floor, Joined, Lawful}
 use Rattle.maps.specs.Members.{has}
@@ -64,9 +64,53 @@ joining n c = do
   refuse (nat_le 8 (length (partners c.first.0 n.connections)) || nat_le 8 (length (partners c.second.0 n.connections))) Crowded
   Ok (with_connection n c)
 
+-- ---- why one is refused
+
+-- as many places as a floor may have
+abbrev pub InCount : ℕ → Type 0
+InCount places = (1 ≤ places) × (places ≤ 1024)
+
+-- why there is no network of so many places
+pub data NotFounded (places : ℕ) : MapRefusal → Type 0 where
+  off_count : (InCount places → ⊥) → NotFounded places Count
+
+-- there are as many connections as there may be
+abbrev pub Full : Network → Type 0
+Full n = 4096 ≤ length n.connections
+
+-- one of the ends is not on the floor
+abbrev pub OffFloor : Network → Connection → Type 0
+OffFloor n c = (n.places ≤ c.first.0) ⊎ (n.places ≤ c.second.0)
+
+-- the ends are one place, or a connection joins them
+abbrev pub AlreadyJoined : Network → Connection → Type 0
+AlreadyJoined n c = (c.first.0 ≡ c.second.0) ⊎ Linked c.first.0 c.second.0 n.connections
+
+-- p has eight neighbours already
+abbrev pub HasEight : Network → ℕ → Type 0
+HasEight n p = 8 ≤ length ((network_floor n).next p)
+
+-- why a connection is not joined: of the four the first that holds
+pub data NotJoined (n : Network) (c : Connection) : MapRefusal → Type 0 where
+  full : Full n → NotJoined n c Count
+  off_floor : (Full n → ⊥) → OffFloor n c → NotJoined n c NoPlace
+  already_joined : (Full n → ⊥) → (OffFloor n c → ⊥) → AlreadyJoined n c → NotJoined n c Twice
+  crowded : (Full n → ⊥) → (OffFloor n c → ⊥) → (AlreadyJoined n c → ⊥) → HasEight n c.first.0 ⊎ HasEight n c.second.0 → NotJoined n c Crowded
+
+-- ---- what the tests tell
+
 -- the tests refuse exactly what would be no list map
 abbrev pub FoundingIsProper : Type 0
 FoundingIsProper = (places : ℕ) → (founding places ≡ Ok (bare places)) ↔ Proper (bare places)
 
 abbrev pub JoiningIsProper : Type 0
 JoiningIsProper = (n : Network) (c : Connection) → Proper n → (joining n c ≡ Ok (with_connection n c)) ↔ Proper (with_connection n c)
+
+-- each answer, and when it is given
+pub record FoundingTells : Type 0 where
+  pub taken : FoundingIsProper
+  pub refused : (places : ℕ) (e : MapRefusal) → (founding places ≡ Err e) ↔ NotFounded places e
+
+pub record JoiningTells : Type 0 where
+  pub taken : JoiningIsProper
+  pub refused : (n : Network) (c : Connection) (e : MapRefusal) → (joining n c ≡ Err e) ↔ NotJoined n c e

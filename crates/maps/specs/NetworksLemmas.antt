@@ -11,8 +11,8 @@ use Rattle.floor.specs.Floor.{Joined, Lawful}
 use Rattle.floor.proofs.Neighbours.{has_from_joined, joined_from_has}
 use Rattle.maps.specs.Networks.{Network, Linked, Proper, NeighboursAreLinked, bare, partners, network_floor, with_connection}
 use Rattle.maps.specs.declared.connection.Connection.{Connection}
-use Rattle.maps.specs.Once.{once_front}
-use Rattle.maps.specs.Partners.{linked_from_has, has_from_linked, linked_back, partners_append}
+use Rattle.maps.specs.OnceLemmas.{once_front}
+use Rattle.maps.specs.PartnersLemmas.{linked_from_has, has_from_linked, linked_back, partners_append}
 
 module _ (n : Network) (p q : ℕ) where
   pub linked_from_joined : Joined (network_floor n) p q → Linked p q n.connections

@@ -8,7 +8,7 @@ use Rattle.maps.specs.Tables.{listed, numbers, row_of}
 use Rattle.maps.specs.declared.connection.Connection.{Connection}
 use Rattle.arrayvec.specs.ArrayVec.{ArrayVec, array_vec_len}
 use Rattle.floor.specs.declared.Place.{Place}
-use Rattle.maps.specs.Partners.{leads_from_links, passes_from_apart, partners_push, partners_past}
+use Rattle.maps.specs.PartnersLemmas.{leads_from_links, passes_from_apart, partners_push, partners_past}
 
 pub length_listed : (r : ArrayVec Place) → length (listed r) ≡ array_vec_len r
 length_listed r = length-map r.items (λ p. p.0)

@@ -1,7 +1,7 @@
 ghost use Rattle.std.specs.Prelude.{◌≡◌};
 ghost use Rattle.maps.specs.GridMaps.{grid_of};
 ghost use Rattle.maps.specs.Made.{Made};
-ghost use Rattle.maps.specs.Grids.{around, free_at, grid_floor, gridding, GriddingIsSized, NeighboursAreBeside, Sized};
+ghost use Rattle.maps.specs.Grids.{around, free_at, grid_floor, gridding, GriddingTells, NeighboursAreBeside, Sized};
 ghost use Rattle.maps.specs.GridsLemmas.{grid_lawful};
 ghost use Rattle.maps.specs.GridMapsLemmas.{map_sized};
 ghost use Rattle.maps.specs.Refusals.{refusal_of};
@@ -16,7 +16,7 @@ use std::alloc::Global;
 
 impl GridMap {
     // A floor of so many rows and columns, from what is said of each cell.
-    #[tactic(auto, using(crate::proofs::Gridding::gridding_is_sized))]
+    #[tactic(auto, using(crate::proofs::Gridding::gridding_tells))]
     pub fn new(
         heap: Global,
         height: usize,
@@ -24,7 +24,7 @@ impl GridMap {
         free: Vec<bool>,
     ) -> Result<GridMap, MapError>
         ensures made { Made grid_of refusal_of (gridding height width free.items) result }
-        ensures sized { GriddingIsSized }
+        ensures tells { GriddingTells }
     {
         let cells = Cells::new(height, width, free)?;
         let rows = cells.rows(heap)?;

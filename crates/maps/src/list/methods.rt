@@ -1,7 +1,7 @@
 ghost use Rattle.std.specs.Prelude.{◌≡◌, IfErr, OnOk};
 ghost use Rattle.maps.specs.ListMaps.{network_of, Changed};
 ghost use Rattle.maps.specs.Made.{Made};
-ghost use Rattle.maps.specs.Networks.{network_floor, founding, joining, Proper, FoundingIsProper, JoiningIsProper, NeighboursAreLinked, partners, with_connection};
+ghost use Rattle.maps.specs.Networks.{network_floor, founding, joining, Proper, FoundingTells, JoiningTells, NeighboursAreLinked, partners, with_connection};
 ghost use Rattle.maps.specs.Refusals.{refusal_of};
 ghost use Rattle.maps.specs.Tables.{numbers};
 ghost use Rattle.maps.specs.ListMapsLemmas.{proper_map};
@@ -18,10 +18,10 @@ const MOST_CONNECTIONS: usize = 4096;
 
 impl ListMap {
     // A floor of so many places and no connection.
-    #[tactic(auto, using(crate::proofs::Founding::founding_is_proper), unfolding(crate::specs::Networks::founding))]
+    #[tactic(auto, using(crate::proofs::Founding::founding_tells), unfolding(crate::specs::Networks::founding))]
     pub fn new(heap: Global, places: u16) -> Result<ListMap, MapError>
         ensures made { Made network_of refusal_of (founding places) result }
-        ensures proper { FoundingIsProper }
+        ensures tells { FoundingTells }
     {
         if !(1..=1024).contains(&places) {
             return Err(MapRefusal::Count.into());
@@ -33,10 +33,10 @@ impl ListMap {
     }
 
     // One connection more, or why not.
-    #[tactic(auto, using(crate::specs::Joining::joining_is_proper, crate::specs::ListMapsLemmas::ends_on_floor, crate::specs::ListMapsLemmas::few_more, crate::specs::ListMapsLemmas::near_room, crate::specs::ListMapsLemmas::far_room))]
+    #[tactic(auto, using(crate::specs::JoiningLemmas::joining_tells, crate::specs::ListMapsLemmas::ends_on_floor, crate::specs::ListMapsLemmas::few_more, crate::specs::ListMapsLemmas::near_room, crate::specs::ListMapsLemmas::far_room))]
     pub fn join(&mut self, c: Connection) -> Result<(), MapRefusal>
         ensures change { Changed (joining (network_of self.old) c) self.old self.new result }
-        ensures proper { JoiningIsProper }
+        ensures tells { JoiningTells }
     {
         self.test_connection(c)?;
         self.rows[usize::from(c.first)].push(c.second);
