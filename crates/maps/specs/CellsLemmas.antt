@@ -26,9 +26,9 @@ module _ (width : ℕ) where
   step_right_at : (p q row column : ℕ) → p ≡ row * width + column → q ≡ row * width + (column + 1) → column + 1 < width → StepRight p q
   step_right_at p q row column from to within =
       let row_from = div-mul-add row width column (omega arith) in
-      let row-to = div-mul-add row width (column + 1) within in
-      let column-from = mod-mul-add row width column (omega arith) in
-      let column-to = mod-mul-add row width (column + 1) within in
+      let row_to = div-mul-add row width (column + 1) within in
+      let column_from = mod-mul-add row width column (omega arith) in
+      let column_to = mod-mul-add row width (column + 1) within in
       (cc, cc)
 
   module _ (some : 1 ≤ width) where

@@ -18,20 +18,20 @@ module _ (width p : ℕ) where
   -- what holds of each of them that is there
   module _ (P : ℕ → Type 0) where
     all_from_right : ((p % width + 1 ≢ width) → P (p + 1)) → P (p + width) → All P (right width p ++ below width p)
-    all_from_right at_right at-below =
-        all_unless (p + 1) (below width p) P _ (λ e. at_right (eqb-false (p % width + 1) width e)) (All-cons P (p + width) [] at-below (All-nil P))
+    all_from_right at_right at_below =
+        all_unless (p + 1) (below width p) P _ (λ e. at_right (eqb-false (p % width + 1) width e)) (All-cons P (p + width) [] at_below (All-nil P))
 
     all_from_left : ((p % width ≢ 0) → P (p - 1)) → ((p % width + 1 ≢ width) → P (p + 1)) → P (p + width) → All P (left width p ++ (right width p ++ below width p))
-    all_from_left at_left at_right at-below =
-        all_unless (p - 1) _ P _ (λ e. at_left (eqb-false (p % width) 0 e)) (all_from_right at_right at-below)
+    all_from_left at_left at_right at_below =
+        all_unless (p - 1) _ P _ (λ e. at_left (eqb-false (p % width) 0 e)) (all_from_right at_right at_below)
 
     all_beside : (width ≤ p → P (p - width)) → ((p % width ≢ 0) → P (p - 1)) → ((p % width + 1 ≢ width) → P (p + 1)) → P (p + width) → All P (beside width p)
-    all_beside at_above at_left at_right at-below =
-        all_unless (p - width) _ P _ (λ e. at_above (ltb-false p width e)) (all_from_left at_left at_right at-below)
+    all_beside at_above at_left at_right at_below =
+        all_unless (p - width) _ P _ (λ e. at_above (ltb-false p width e)) (all_from_left at_left at_right at_below)
 
   few_beside : length (beside width p) ≤ 4
   few_beside =
-      let from-above = length_unless (p - width) (left width p ++ (right width p ++ below width p)) (nat_lt p width) in
+      let from_above = length_unless (p - width) (left width p ++ (right width p ++ below width p)) (nat_lt p width) in
       let from_left = length_unless (p - 1) (right width p ++ below width p) (p % width == 0) in
       let from_right = length_unless (p + 1) (below width p) (p % width + 1 == width) in
       omega arith
@@ -99,15 +99,15 @@ module _ (g : Grid) (sized : Sized g) where
           (listed.0, kept.0, All-contains (SideBySide g.width p) (beside g.width p) q (all_side_by_side g.width sized.some_columns p) kept.1)
 
       to_joined : (free_at g p ≡ true) × (free_at g q ≡ true) × SideBySide g.width p q → Joined (grid_floor g) p q
-      to_joined (free-p, free-q, side) =
+      to_joined (free_p, free_q, side) =
           joined_from_has (grid_floor g) p q
-          (cond_has (free_at g p) _ q free-p (kept_by_has (free_at g) (beside g.width p) q free-q (has_beside g.width sized.some_columns p q side)))
+          (cond_has (free_at g p) _ q free_p (kept_by_has (free_at g) (beside g.width p) q free_q (has_beside g.width sized.some_columns p q side)))
 
   few_around : (p : ℕ) → length (around g p) ≤ 4
   unfolding around
   few_around p =
-      let beside-most = few_beside g.width p in
-      let kept-most = length_kept_by_most (free_at g) (beside g.width p) in
+      let beside_most = few_beside g.width p in
+      let kept_most = length_kept_by_most (free_at g) (beside g.width p) in
       cond_both (free_at g p) _ [] (λ l. length l ≤ 4) (λ _. omega arith) (λ _. omega arith)
 
   around_differ : (p : ℕ) → Differ (around g p)

@@ -45,7 +45,7 @@ module _ (rows : List (ArrayVec Place)) (cs : List Connection) (c : Connection) 
 
   pub tied_push : ((p : ℕ) → row_of rows p ≡ partners p cs) → one < length rows → other < length rows → (one ≢ other) → listed near ≡ partners one cs ++ other ∷ [] → listed far ≡ partners other cs ++ one ∷ [] →
       (p : ℕ) → row_of (slice_set (slice_set rows one near) other far) p ≡ partners p (cs ++ c ∷ [])
-  tied_push tied on on' apart near_is far-is p =
+  tied_push tied on on' apart near_is far_is p =
       ⊎_elim (λ e. subst Tied (sym e) at_other) (λ off'. ⊎_elim (λ e. subst Tied (sym e) at_one) (λ off. past off off') (cases_eq p one)) (cases_eq p other)
     where
       Tied : ℕ → Type 0
@@ -54,7 +54,7 @@ module _ (rows : List (ArrayVec Place)) (cs : List Connection) (c : Connection) 
       at_other : Tied other
       at_other =
           let long = length-set rows one near in
-          row_of_set (slice_set rows one near) other far (omega arith) ∙ far-is ∙ sym (partners_push other cs c one (leads_from_links other one c (inr (refl, refl))))
+          row_of_set (slice_set rows one near) other far (omega arith) ∙ far_is ∙ sym (partners_push other cs c one (leads_from_links other one c (inr (refl, refl))))
 
       at_one : Tied one
       at_one =
