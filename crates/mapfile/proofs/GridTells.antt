@@ -48,41 +48,41 @@ module _ (bytes : List ℕ) where
       MatchResult (behind_map height width (record { at = at; bytes = rest })) Laid Faulty
   behind_map_tells height width at front rest is text headed = then_tells Laid Faulty (body height width width at rest) _ (rows_tell at height width rest Faulty
       (λ k m e wrong is_m. faulty_at m (wrong_rows height width front rest e k text headed wrong) (omega arith))
-      _ (λ rows tall wide text-m. laid height width front rows headed tall wide (text ∙ ap (λ l. front ++ (map_text ++ l)) text-m)))
+      _ (λ rows tall wide text_m. laid height width front rows headed tall wide (text ∙ ap (λ l. front ++ (map_text ++ l)) text_m)))
 
   from_map_tells : (height width at : ℕ) (front rest : List ℕ) → at ≡ length front → bytes ≡ front ++ rest → ToWidth height width front →
       MatchResult (from_map height width (record { at = at; bytes = rest })) Laid Faulty
   from_map_tells height width at front rest is text headed = then_tells Laid Faulty (after_text map_text at rest) _ (text_tells _ Faulty map_text at rest
-      (λ below m is_m text-m. behind_map_tells height width m front below (simp length-append (omega arith)) (text ∙ ap (λ l. front ++ l) text-m) headed)
+      (λ below m is_m text_m. behind_map_tells height width m front below (simp length-append (omega arith)) (text ∙ ap (λ l. front ++ l) text_m) headed)
       (λ k m is_m departs. faulty_at m (no_map_line height width front rest k text headed departs) (omega arith)))
 
   behind_width_tells : (height at : ℕ) (front rest : List ℕ) → at ≡ length (front ++ width_text) → bytes ≡ front ++ (width_text ++ rest) → ToHeight height front →
       MatchResult (behind_width height (record { at = at; bytes = rest })) Laid Faulty
   behind_width_tells height at front rest is text headed =
-      let at-end = simp length-append at is in
+      let at_end = simp length-append at is in
       then_tells Laid Faulty (size_line at rest) _ (size_tells _ Faulty at rest
-      (λ digits below width m size is_m text-m. from_map_tells height width m (front ++ (width_text ++ (digits ++ 10 ∷ []))) below
-      (simp length-append (omega arith)) (simp append_assoc (text ∙ ap (λ l. front ++ (width_text ++ l)) text-m))
+      (λ digits below width m size is_m text_m. from_map_tells height width m (front ++ (width_text ++ (digits ++ 10 ∷ []))) below
+      (simp length-append (omega arith)) (simp append_assoc (text ∙ ap (λ l. front ++ (width_text ++ l)) text_m))
       (record { upper = front; headed = headed; digits = digits; numeral = size.0; gauged = size.1; text = refl }))
       (λ k m none is_m. faulty_at m (no_width height front rest k text headed none) (omega arith))
-      (λ digits below width numeral off text-m. faulty_at at (width_off_gauge height front digits below width (text ∙ ap (λ l. front ++ (width_text ++ l)) text-m) headed numeral off) is))
+      (λ digits below width numeral off text_m. faulty_at at (width_off_gauge height front digits below width (text ∙ ap (λ l. front ++ (width_text ++ l)) text_m) headed numeral off) is))
 
   from_width_tells : (height at : ℕ) (front rest : List ℕ) → at ≡ length front → bytes ≡ front ++ rest → ToHeight height front →
       MatchResult (from_width height (record { at = at; bytes = rest })) Laid Faulty
   from_width_tells height at front rest is text headed = then_tells Laid Faulty (after_text width_text at rest) _ (text_tells _ Faulty width_text at rest
-      (λ below m is_m text-m. behind_width_tells height m front below (simp length-append (omega arith)) (text ∙ ap (λ l. front ++ l) text-m) headed)
+      (λ below m is_m text_m. behind_width_tells height m front below (simp length-append (omega arith)) (text ∙ ap (λ l. front ++ l) text_m) headed)
       (λ k m is_m departs. faulty_at m (no_width_label height front rest k text headed departs) (omega arith)))
 
   behind_opening_tells : (at : ℕ) (rest : List ℕ) → at ≡ length opening_text → bytes ≡ opening_text ++ rest → MatchResult (behind_opening (record { at = at; bytes = rest })) Laid Faulty
   behind_opening_tells at rest is text = then_tells Laid Faulty (size_line at rest) _ (size_tells _ Faulty at rest
-      (λ digits below height m size is_m text-m. from_width_tells height m (opening_text ++ (digits ++ 10 ∷ [])) below
-      (simp length-append (omega arith)) (simp append_assoc (text ∙ ap (λ l. opening_text ++ l) text-m))
+      (λ digits below height m size is_m text_m. from_width_tells height m (opening_text ++ (digits ++ 10 ∷ [])) below
+      (simp length-append (omega arith)) (simp append_assoc (text ∙ ap (λ l. opening_text ++ l) text_m))
       (record { digits = digits; numeral = size.0; gauged = size.1; text = refl }))
       (λ k m none is_m. faulty_at m (no_height rest k text none) (omega arith))
-      (λ digits below height numeral off text-m. faulty_at at (height_off_gauge digits below height (text ∙ ap (λ l. opening_text ++ l) text-m) numeral off) is))
+      (λ digits below height numeral off text_m. faulty_at at (height_off_gauge digits below height (text ∙ ap (λ l. opening_text ++ l) text_m) numeral off) is))
 
   pub grid_reading_tells : MatchResult (grid_reading bytes) Laid Faulty
   unfolding grid_reading
   grid_reading_tells = then_tells Laid Faulty (after_text opening_text 0 bytes) _ (text_tells _ Faulty opening_text 0 bytes
-      (λ below m is_m text-m. behind_opening_tells m below (omega arith) text-m)
+      (λ below m is_m text_m. behind_opening_tells m below (omega arith) text_m)
       (λ k m is_m departs. faulty_at m (not_opened k departs) (omega arith)))

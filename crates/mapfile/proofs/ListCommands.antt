@@ -1,6 +1,7 @@
 -- The `W` commands of a list file, and the connections that they come to.
 use Rattle.std.proofs.Common.{◌≡◌, ℕ, ◌+◌, ◌/◌, ◌%◌, ◌<◌, true, false, not, eqb, ◌⊎◌, List, [], ◌∷◌, ◌++◌, length, Ok, Err, Result, sym, refl, ap, ◌∙◌, subst, ap₂, inl, inr, ⊎_elim, add-zero, zero-add, arith}
-use Rattle.floor.proofs.Chains.{ok_no_err, err_same, bind_ok, bind_err, bind_at, passed, refused_or_passed}
+use Rattle.floor.specs.Checks.{◌>>=◌}
+use Rattle.floor.proofs.Chains.{ok_no_err, err_same, bind_ok, bind_err, bind_at, passed, refused, refused_or_passed}
 use Rattle.maps.specs.Networks.{Network, Proper, joining, with_connection}
 use Rattle.maps.specs.declared.connection.Connection.{Connection}
 use Rattle.maps.specs.JoiningLemmas.{joining_is_proper}
@@ -16,7 +17,7 @@ use Rattle.mapfile.proofs.Words.{word_back, word_high, word_low}
 use Rattle.std.specs.List.{flat_map}
 use Rattle.std.proofs.lemmas.List.{append-nil, append_assoc}
 use Rattle.std.proofs.lemmas.List.Elements.{All-drop}
-use Rattle.std.proofs.lemmas.Bool.{eqb-true, eqb-false, not-true, not-false, cases_Bool, cond-true, cond-false}
+use Rattle.std.proofs.lemmas.Bool.{eqb-true, eqb-false, ne_eqb, not-true, not-false, cases_Bool, cond-true, cond-false}
 
 -- the network with more connections
 abbrev pub extended : Network → List Connection → Network
@@ -25,7 +26,7 @@ extended n cs = record { places = n.places; connections = n.connections ++ cs }
 abbrev pub texts : List Connection → List ℕ
 texts = flat_map connection_text
 
-pub extended_none : (n : Network) → extended n [] ≡ n
+extended_none : (n : Network) → extended n [] ≡ n
 extended_none n = ap (λ cs. record { places = n.places; connections = cs }) (append-nil n.connections)
 
 extended_more : (n : Network) (c : Connection) (cs : List Connection) → extended (with_connection n c) cs ≡ extended n (c ∷ cs)
@@ -108,14 +109,15 @@ connection_back : (c : Connection) → connection (c.first.0 / 256) (c.first.0 %
 connection_back c =
     ap₂ (λ x y. record { first = record { 0 = x }; second = record { 0 = y } }) (word_back c.first.0) (word_back c.second.0)
 
-pub connecting_from : (cs : List Connection) (n : Network) (at : ℕ) → Proper (extended n cs) → connecting n at (texts cs) ≡ Ok (extended n cs)
-connecting_from [] n at proper = ap Ok (sym (extended_none n))
-connecting_from (c ∷ cs) n at proper =
+-- connections' texts are read, and then what stands behind them
+pub connecting_on : (cs : List Connection) (n : Network) (at : ℕ) (rest : List ℕ) → Proper (extended n cs) → connecting n at (texts cs ++ rest) ≡ connecting (extended n cs) (at + length (texts cs)) rest
+connecting_on [] n at rest proper = ap₂ (λ m k. connecting m k rest) (sym (extended_none n)) (sym (add-zero at))
+connecting_on (c ∷ cs) n at rest proper =
     let longer = subst Proper (sym (extended_more n c cs)) proper in
     let front = proper_prefix n.places (n.connections ++ c ∷ []) cs longer in
     let taken = (joining_is_proper n c (proper_front n c front)).1 front in
-    bind_at (blame at (joining n _)) (λ j. connecting j (at + 5) (texts cs)) (with_connection n c) (ap (λ x. blame at (joining n x)) (connection_back c) ∙ ap (blame at) taken)
-    ∙ connecting_from cs (with_connection n c) (at + 5) longer ∙ ap Ok (extended_more n c cs)
+    bind_at (blame at (joining n _)) (λ j. connecting j (at + 5) (texts cs ++ rest)) (with_connection n c) (ap (λ x. blame at (joining n x)) (connection_back c) ∙ ap (blame at) taken)
+    ∙ connecting_on cs (with_connection n c) (at + 5) rest longer ∙ ap₂ (λ m k. connecting m k rest) (extended_more n c cs) (omega arith)
 
 -- connections' texts, and then what does not go on
 pub record Stops (n : Network) (at : ℕ) (bytes : List ℕ) (f : Fault) : Type 0 where
@@ -190,3 +192,25 @@ connecting_err n at (l ∷ a ∷ b ∷ c ∷ d ∷ bytes) f low proper h =
     ⊎_elim (λ s. s)
     (λ step. stops_later n at l a b c d bytes f low step.0 (connecting_err (with_connection n (connection a b c d)) (at + 5) bytes f (bytes_behind_command l a b c d bytes low) ((joining_is_proper n (connection a b c d) proper).0 step.1) step.2))
     (command_err n at l a b c d bytes f proper h)
+
+-- ---- what cannot go on is refused
+
+other_letter_stops : (n : Network) (at l : ℕ) (bytes : List ℕ) → (l ≡ 87 → ⊥) → connecting n at (l ∷ bytes) ≡ Err (fault Letter at)
+other_letter_stops n at l [] other = ap Err (cond-false _ _ _ (ne_eqb l 87 other))
+other_letter_stops n at l (a ∷ []) other = ap Err (cond-false _ _ _ (ne_eqb l 87 other))
+other_letter_stops n at l (a ∷ b ∷ []) other = ap Err (cond-false _ _ _ (ne_eqb l 87 other))
+other_letter_stops n at l (a ∷ b ∷ c ∷ []) other = ap Err (cond-false _ _ _ (ne_eqb l 87 other))
+other_letter_stops n at l (a ∷ b ∷ c ∷ d ∷ bytes) other = refused (not (eqb l 87)) (fault Letter at) _ (ap not (ne_eqb l 87 other))
+
+short_stops : (n : Network) (at : ℕ) (bytes : List ℕ) → length bytes < 4 → connecting n at (87 ∷ bytes) ≡ Err (fault CutShort (at + length (87 ∷ bytes)))
+short_stops n at [] short = refl
+short_stops n at (a ∷ []) short = refl
+short_stops n at (a ∷ b ∷ []) short = refl
+short_stops n at (a ∷ b ∷ c ∷ []) short = refl
+short_stops n at (a ∷ b ∷ c ∷ d ∷ bytes) short = absurd (omega arith)
+
+pub continuing_stops : (n : Network) (at : ℕ) (bytes : List ℕ) (e : MapRefusal) (k : ℕ) → NoContinuing n bytes e k → connecting n at bytes ≡ Err (fault e (at + k))
+continuing_stops n at bytes e k (no_connection {letter = l} {bytes = behind} other) = rw add-zero (other_letter_stops n at l behind other)
+continuing_stops n at bytes e k (places_cut {bytes = behind} short) = short_stops n at behind short
+continuing_stops n at bytes e k (connection_refused {a = a} {b = b} {c = c} {d = d} {bytes = behind} why) =
+    rw add-zero (ap (λ r. blame at r >>= λ j. connecting j (at + 5) behind) ((refused_exactly n (connection a b c d) e).1 why))

@@ -1,6 +1,7 @@
--- A list file is read exactly when it is laid out as one, and its fault is the first.
-use Rattle.std.proofs.Common.{◌≡◌, ℕ, ◌+◌, ◌<◌, not, eqb, List, [], ◌∷◌, ◌++◌, length, drop, Ok, Err, Result, sym, ap, ◌∙◌, subst, ap₂, ⊎_elim, arith}
-use Rattle.floor.proofs.Chains.{ok_no_err, err_same, bind_ok, bind_err, bind_at, passed, refused_or_passed}
+-- A list file is read exactly when it is laid out as one, and has a fault exactly where it is the first.
+use Rattle.std.proofs.Common.{◌≡◌, ℕ, ◌+◌, ◌<◌, not, eqb, List, [], ◌∷◌, ◌++◌, length, drop, Ok, Err, Result, refl, sym, ap, ◌∙◌, subst, ap₂, ⊎_elim, arith}
+use Rattle.floor.specs.Checks.{◌>>=◌}
+use Rattle.floor.proofs.Chains.{ok_no_err, err_same, bind_ok, bind_err, bind_at, passed, refused, refused_or_passed}
 use Rattle.maps.specs.Networks.{Network, Proper, bare, founding}
 use Rattle.maps.specs.declared.connection.Connection.{Connection}
 use Rattle.maps.proofs.Founding.{founding_ok, founding_gives, founding_tells}
@@ -8,12 +9,13 @@ use Rattle.maps.specs.declared.refusal.MapRefusal.{MapRefusal}
 use Rattle.maps.specs.declared.refusal.MapRefusal.TheVariants.{Letter, CutShort}
 use Rattle.mapfile.specs.Faults.{fault}
 use Rattle.mapfile.specs.ListFiles.{word, blame, cut, beginning, connecting, list_reading}
-use Rattle.mapfile.specs.ListLayout.{list_text, Bytes, ListReadExactly, ListFault, at_beginning, at_command, NoBeginning, empty, no_count, count_cut, count_refused, ListFaultIsFirst}
+use Rattle.mapfile.specs.ListLayout.{list_text, Bytes, ListReadExactly, ListFault, at_beginning, at_command, NoBeginning, empty, no_count, count_cut, count_refused, ListFaultsExactly}
 use Rattle.mapfile.specs.declared.fault.Fault.{Fault}
-use Rattle.mapfile.proofs.ListCommands.{Stops, extended, texts, letter_from_test, other_letter, cut_cases, blame_ok, blame_err, connecting_ok, connecting_from, connecting_err}
+use Rattle.mapfile.proofs.ListCommands.{Stops, extended, texts, letter_from_test, other_letter, cut_cases, blame_ok, blame_err, connecting_ok, connecting_on, connecting_err, continuing_stops}
 use Rattle.mapfile.proofs.Words.{word_back, word_high, word_low}
 use Rattle.std.proofs.lemmas.List.{append-nil}
 use Rattle.std.proofs.lemmas.List.Elements.{All-drop}
+use Rattle.std.proofs.lemmas.Bool.{cond-false, ne_eqb}
 
 -- what the bytes begin with, when they begin well
 record Begins (bytes : List ℕ) (n : Network) : Type 0 where
@@ -63,12 +65,16 @@ text_when_read bytes n fit h =
     let text = text_of bytes step.0 b read.more [] (read.text ∙ sym (append-nil (texts read.more))) in
     (read.proper, text ∙ append-nil (list_text _) ∙ ap list_text (sym read.whole))
 
-read_when_text : (n : Network) → Proper n → list_reading (list_text n) ≡ Ok n
+-- a network's text is read, and then what stands behind it
+text_read : (n : Network) (rest : List ℕ) → Proper n → list_reading (list_text n ++ rest) ≡ connecting n (length (list_text n)) rest
 unfolding list_reading
-read_when_text n proper =
+text_read n rest proper =
     let founded = founding_ok n.places proper.lawful.some proper.lawful.most in
-    bind_at (beginning (list_text n)) (λ j. connecting j 3 (texts n.connections)) (bare n.places) (ap (λ k. blame 0 (founding k)) (word_back n.places) ∙ ap (blame 0) founded)
-    ∙ connecting_from n.connections (bare n.places) 3 proper
+    bind_at (beginning (list_text n)) (λ j. connecting j 3 (texts n.connections ++ rest)) (bare n.places) (ap (λ k. blame 0 (founding k)) (word_back n.places) ∙ ap (blame 0) founded)
+    ∙ connecting_on n.connections (bare n.places) 3 rest proper ∙ ap (λ k. connecting n k rest) (omega arith)
+
+read_when_text : (n : Network) → Proper n → list_reading (list_text n) ≡ Ok n
+read_when_text n proper = ap list_reading (sym (append-nil (list_text n))) ∙ text_read n [] proper
 
 pub list_read_exactly : (bytes : List ℕ) → Bytes bytes → ListReadExactly bytes
 list_read_exactly bytes fit n =
@@ -99,9 +105,34 @@ goes_wrong bytes n f b s =
     let place : length (list_text m) + s.beyond ≡ f.offset = let p = s.place in omega arith in
     subst (ListFault bytes f.refusal) place (at_command m s.rest s.beyond s.proper (text_of bytes n b s.more s.rest s.text) s.wrong)
 
-pub list_fault_is_first : (bytes : List ℕ) → Bytes bytes → ListFaultIsFirst bytes
+first_fault : (bytes : List ℕ) (f : Fault) → Bytes bytes → list_reading bytes ≡ Err f → ListFault bytes f.refusal f.offset
 unfolding list_reading
-list_fault_is_first bytes fit f h =
+first_fault bytes f fit h =
     ⊎_elim (begins_badly bytes f)
     (λ k. let b = begins_well bytes k.0 fit k.1 in goes_wrong bytes k.0 f b (connecting_err (bare (word b.high b.low)) 3 b.rest f b.bytes_left b.proper (goes_on bytes k.0 b (Err f) k.2)))
     (bind_err (beginning bytes) (λ j. connecting j 3 (drop 3 bytes)) f h)
+
+other_letter_refused : (l : ℕ) (bytes : List ℕ) → (l ≡ 80 → ⊥) → beginning (l ∷ bytes) ≡ Err (fault Letter 0)
+other_letter_refused l [] other = ap Err (cond-false _ _ _ (ne_eqb l 80 other))
+other_letter_refused l (a ∷ []) other = ap Err (cond-false _ _ _ (ne_eqb l 80 other))
+other_letter_refused l (a ∷ b ∷ bytes) other = refused (not (eqb l 80)) (fault Letter 0) _ (ap not (ne_eqb l 80 other))
+
+short_refused : (bytes : List ℕ) → length bytes < 2 → beginning (80 ∷ bytes) ≡ Err (fault CutShort (length (80 ∷ bytes)))
+short_refused [] short = refl
+short_refused (a ∷ []) short = refl
+short_refused (a ∷ b ∷ bytes) short = absurd (omega arith)
+
+beginning_refused : (bytes : List ℕ) (e : MapRefusal) (k : ℕ) → NoBeginning bytes e k → beginning bytes ≡ Err (fault e k)
+beginning_refused bytes e k empty = refl
+beginning_refused bytes e k (no_count {letter = l} {bytes = behind} other) = other_letter_refused l behind other
+beginning_refused bytes e k (count_cut {bytes = behind} short) = short_refused behind short
+beginning_refused bytes e k (count_refused {a = a} {b = b} why) = ap (blame 0) ((founding_tells.refused (word a b) e).1 why)
+
+fault_found : (bytes : List ℕ) (e : MapRefusal) (k : ℕ) → ListFault bytes e k → list_reading bytes ≡ Err (fault e k)
+unfolding list_reading
+fault_found bytes e k (at_beginning wrong) = ap (λ r. r >>= λ j. connecting j 3 (drop 3 bytes)) (beginning_refused bytes e k wrong)
+fault_found bytes e k (at_command n rest beyond proper text wrong) =
+    ap list_reading text ∙ text_read n rest proper ∙ continuing_stops n (length (list_text n)) rest e beyond wrong
+
+pub list_faults_exactly : (bytes : List ℕ) → Bytes bytes → ListFaultsExactly bytes
+list_faults_exactly bytes fit f = (first_fault bytes f fit, fault_found bytes f.refusal f.offset)

@@ -1,18 +1,18 @@
 -- A map file is read exactly when it is laid out as a list or as a grid: the first byte tells the two apart.
-use Rattle.std.proofs.Common.{◌≡◌, ℕ, true, false, List, Ok, Err, Result, MatchResult, sym, ap, ◌∙◌, subst, ⊎_elim}
+use Rattle.std.proofs.Common.{◌≡◌, ℕ, Bool, true, false, ◌↔◌, List, Ok, Err, Result, MatchResult, sym, ap, ◌∙◌, subst, ⊎_elim}
 use Rattle.floor.specs.Checks.{◌>>=◌}
 use Rattle.floor.proofs.Chains.{ok_no_err, ok_same, bind_ok, bind_err, bind_at}
 use Rattle.maps.specs.AnyMaps.{Hall, hall_of, listed, gridded}
 use Rattle.maps.specs.Grids.{Grid}
 use Rattle.maps.specs.Networks.{Network}
 use Rattle.mapfile.specs.GridFiles.{grid_reading}
-use Rattle.mapfile.specs.GridLayout.{GridText, GridReadExactly, GridFaultIsFirst}
+use Rattle.mapfile.specs.GridLayout.{GridText, GridReadExactly, GridFaultsExactly}
 use Rattle.mapfile.specs.ListFiles.{list_reading}
-use Rattle.mapfile.specs.ListLayout.{list_text, ListReadExactly, ListFaultIsFirst}
-use Rattle.mapfile.specs.MapFiles.{is_list, reading_as, map_reading, MapText, MapReadExactly, FaultAs, MapFaultIsFirst}
+use Rattle.mapfile.specs.ListLayout.{list_text, ListReadExactly, ListFaultsExactly}
+use Rattle.mapfile.specs.MapFiles.{is_list, reading_as, map_reading, MapText, MapReadExactly, FaultAs, MapFaultsExactly}
 use Rattle.mapfile.specs.declared.fault.Fault.{Fault}
 use Rattle.mapfile.specs.declared.fault.ReadError.{ReadError}
-use Rattle.mapfile.proofs.FaultAnswers.{stage_error}
+use Rattle.mapfile.proofs.FaultAnswers.{stage_error, stage_fault}
 use Rattle.mapfile.specs.Faults.{Answers}
 use Rattle.maps.specs.declared.any.AnyMap.{AnyMap}
 use Rattle.std.proofs.lemmas.Bool.{both_ways}
@@ -38,7 +38,7 @@ module _ (bytes : List ℕ) where
     kind_read h text e =
         let read = bind_ok reading (λ x. Ok (kind x)) h (sym is ∙ e) in subst (λ h. MapText h bytes) (ok_same read.2) (text read.0 read.1)
 
-    pub kind_reads : (x : X) → reading ≡ Ok x → map_reading bytes ≡ Ok (kind x)
+    kind_reads : (x : X) → reading ≡ Ok x → map_reading bytes ≡ Ok (kind x)
     kind_reads x e = is ∙ bind_at reading (λ x. Ok (kind x)) x e
 
     -- and what is made of an answer of that kind is an answer of either
@@ -47,9 +47,18 @@ module _ (bytes : List ℕ) where
     kind_answers means wrap wraps (Ok t) answer told tells = rw (tells, wraps t) (kind_reads (means t) answer)
     kind_answers means wrap wraps (Err e) answer told tells = rw tells (stage_error (map_reading bytes) reading (λ x. Ok (kind x)) is e answer)
 
-    kind_fails : (f : Fault) → map_reading bytes ≡ Err f → reading ≡ Err f
-    kind_fails f e =
-        ⊎_elim (λ h. h) (λ h. absurd (ok_no_err h.2)) (bind_err reading (λ x. Ok (kind x)) f (sym is ∙ e))
+    kind_fails : (f : Fault) → (map_reading bytes ≡ Err f) ↔ (reading ≡ Err f)
+    kind_fails f = (
+      λ e. ⊎_elim (λ h. h) (λ h. absurd (ok_no_err h.2)) (bind_err reading (λ x. Ok (kind x)) f (sym is ∙ e)),
+      λ e. is ∙ stage_fault reading (λ x. Ok (kind x)) f e,
+    )
+
+    -- a fault of that kind's layout, where the bytes begin as it
+    kind_faults : (list : Bool) → is_list bytes ≡ list → ((f : Fault) → (reading ≡ Err f) ↔ FaultAs list bytes f.refusal f.offset) → MapFaultsExactly bytes
+    kind_faults list begins exactly f = (
+      λ e. subst (λ b. FaultAs b bytes f.refusal f.offset) (sym begins) ((exactly f).0 ((kind_fails f).0 e)),
+      λ h. (kind_fails f).1 ((exactly f).1 (subst (λ b. FaultAs b bytes f.refusal f.offset) begins h)),
+    )
 
   pub list_exactly : is_list bytes ≡ true → ListReadExactly bytes → MapReadExactly bytes
   list_exactly is exactly h = (kind_read listed (list_reading bytes) (read_as_list is) h (λ n. (exactly n).0), to_reading h)
@@ -65,10 +74,8 @@ module _ (bytes : List ℕ) where
       to_reading (listed n) t = absurd (both_ways _ is (list_begins bytes n t.1))
       to_reading (gridded g) t = kind_reads gridded (grid_reading bytes) (read_as_grid is) g ((exactly g).1 t)
 
-  pub list_first : is_list bytes ≡ true → ListFaultIsFirst bytes → MapFaultIsFirst bytes
-  list_first is first f e =
-      subst (λ b. FaultAs b bytes f.refusal f.offset) (sym is) (first f (kind_fails listed (list_reading bytes) (read_as_list is) f e))
+  pub list_faults : is_list bytes ≡ true → ListFaultsExactly bytes → MapFaultsExactly bytes
+  list_faults is = kind_faults listed (list_reading bytes) (read_as_list is) true is
 
-  pub grid_first : is_list bytes ≡ false → GridFaultIsFirst bytes → MapFaultIsFirst bytes
-  grid_first is first f e =
-      subst (λ b. FaultAs b bytes f.refusal f.offset) (sym is) (first f (kind_fails gridded (grid_reading bytes) (read_as_grid is) f e))
+  pub grid_faults : is_list bytes ≡ false → GridFaultsExactly bytes → MapFaultsExactly bytes
+  grid_faults is = kind_faults gridded (grid_reading bytes) (read_as_grid is) false is

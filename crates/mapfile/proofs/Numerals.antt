@@ -1,14 +1,16 @@
 -- A line with a number is read exactly where a numeral and the line's end stand, and a fault is where neither a digit
 -- that may come nor the line's end stands.
-use Rattle.std.proofs.Common.{◌≡◌, ℕ, zero, suc, ◌+◌, ◌-◌, ◌*◌, ◌<◌, ◌≤◌, cond, ◌&&◌, eqb, leb, List, [], ◌∷◌, ◌++◌, length, take, IfSome, Some, None, Ok, Err, Decides, fold, All, Option, refl, ap, zero-add, arith, MatchResult}
+use Rattle.std.proofs.Common.{◌≡◌, ℕ, zero, suc, ◌+◌, ◌-◌, ◌*◌, ◌<◌, ◌≤◌, true, false, cond, ◌&&◌, eqb, leb, List, [], ◌∷◌, ◌++◌, length, take, IfSome, Some, None, Ok, Err, Decides, fold, All, Option, refl, sym, ap, ap₂, ◌∙◌, not, add-zero, zero-add, arith, MatchResult}
 use Rattle.maps.specs.Grids.{InGauge}
 use Rattle.maps.specs.declared.refusal.MapRefusal.TheVariants.{Headless, Gauge}
-use Rattle.floor.proofs.Chains.{then_tells, cond_tells, unless_tells}
+use Rattle.floor.proofs.Chains.{bind_at, cond_tells, passes, refused, then_tells, unless_tells}
+use Rattle.floor.proofs.Deciding.{false_from_decides}
+use Rattle.mapfile.proofs.FaultAnswers.{stage_fault}
 use Rattle.mapfile.specs.Faults.{fault}
-use Rattle.mapfile.specs.GridFiles.{Number, more_digits, number_line, size_line}
+use Rattle.mapfile.specs.GridFiles.{Number, is_digit, more_digits, number_line, size_line}
 use Rattle.mapfile.specs.GridLayout.{Digit, Numeral, NoNumber}
 use Rattle.mapfile.specs.declared.fault.Fault.{Fault}
-use Rattle.std.proofs.lemmas.Bool.{leb-true, le-leb}
+use Rattle.std.proofs.lemmas.Bool.{cond-false, cond-true, le-leb, leb-true, ne_eqb}
 use Rattle.std.proofs.lemmas.Bool.Decides.{Decides-and, Decides-eqb}
 use Rattle.std.proofs.lemmas.List.Elements.{All-cons, All-head, All-nil, All-tail}
 use Rattle.std.specs.List.{slice_get}
@@ -60,9 +62,6 @@ abbrev Reads : (Number → Type 0) → (List ℕ → ℕ → Type 0) → ℕ →
 Reads P Is at bytes =
     (digits rest : List ℕ) (n m : ℕ) → Is digits n → m ≡ at + length digits + 1 → bytes ≡ digits ++ 10 ∷ rest → P (record { value = n; behind = record { at = m; bytes = rest } })
 
-abbrev Passes : (Number → Type 0) → ℕ → List ℕ → Type 0
-Passes P n rest = (m : ℕ) → P (record { value = n; behind = record { at = m; bytes = rest } })
-
 abbrev Stops : (Fault → Type 0) → (ℕ → Type 0) → ℕ → Type 0
 Stops Q IsNone at = (k m : ℕ) → IsNone k → m ≡ at + k → Q (fault Headless m)
 
@@ -92,24 +91,6 @@ module _ (P : Number → Type 0) (Q : Fault → Type 0) where
       (λ k m none is. stop (suc k) m (no_number_from_more digit none) (omega arith)))
       (λ strange. stop 0 at (record { most = omega arith; there = omega arith; digits = All-nil Digit; departs = (λ _. strange, λ some. absurd (omega arith)) }) (omega arith))
 
-  more_digits_pass : (most value at : ℕ) (digits rest : List ℕ) (n : ℕ) → More most value digits n → Passes P n rest → MatchResult (more_digits most value at (digits ++ 10 ∷ rest)) P Q
-  more_digits_pass zero value at [] rest n more passes = rw (← more.comes) (passes (at + 1))
-  more_digits_pass (suc most) value at [] rest n more passes = rw (← more.comes) (passes (at + 1))
-  more_digits_pass zero value at (d ∷ ds) rest n more passes = absurd (omega (arith, more.few))
-  more_digits_pass (suc most) value at (d ∷ ds) rest n more passes =
-      let fewer : More most (value * 10 + (d - 48)) ds n = record { few = omega (arith, more.few); decimal = All-tail Digit d ds more.decimal; comes = more.comes } in
-      cond_tells P Q _ _ _ (decides_between 48 57 d)
-      (λ digit. more_digits_pass most (value * 10 + (d - 48)) (at + 1) ds rest n fewer passes)
-      (λ strange. absurd (strange (All-head Digit d ds more.decimal)))
-
-  number_passes : (at : ℕ) (digits rest : List ℕ) (n : ℕ) → Numeral digits n → Passes P n rest → MatchResult (number_line at (digits ++ 10 ∷ rest)) P Q
-  number_passes at [] rest n numeral passes = absurd (omega (arith, numeral.some))
-  number_passes at (d ∷ ds) rest n numeral passes =
-      let more : More 2 (d - 48) ds n = record { few = omega (arith, numeral.most); decimal = All-tail Digit d ds numeral.decimal; comes = rw zero-add at numeral.value } in
-      cond_tells P Q _ _ _ (decides_between 48 57 d)
-      (λ digit. more_digits_pass 2 (d - 48) (at + 1) ds rest n more passes)
-      (λ strange. absurd (strange (All-head Digit d ds numeral.decimal)))
-
 module _ (P : Number → Type 0) (Q : Fault → Type 0) where
   pub size_tells : (at : ℕ) (bytes : List ℕ) → Reads P (λ digits n. Numeral digits n × InGauge n) at bytes → Stops Q (NoNumber bytes) at →
       ((digits rest : List ℕ) (n : ℕ) → Numeral digits n → (InGauge n → ⊥) → bytes ≡ digits ++ 10 ∷ rest → Q (fault Gauge at)) → MatchResult (size_line at bytes) P Q
@@ -118,6 +99,72 @@ module _ (P : Number → Type 0) (Q : Fault → Type 0) where
       (λ digits rest n m numeral is text. unless_tells P Q _ _ _ (decides_between 1 32 n) (λ gauged. read digits rest n m (numeral, gauged) is text) (λ off. refused digits rest n numeral off text))
       stop)
 
-  pub size_passes : (at : ℕ) (digits rest : List ℕ) (n : ℕ) → Numeral digits n → InGauge n → Passes P n rest → MatchResult (size_line at (digits ++ 10 ∷ rest)) P Q
-  size_passes at digits rest n numeral gauged passes = then_tells P Q (number_line at (digits ++ 10 ∷ rest)) _ (number_passes _ Q at digits rest n numeral
-      (λ m. unless_tells P Q _ _ _ (decides_between 1 32 n) (λ _. passes m) (λ off. absurd (off gauged))))
+-- ---- what a line gives, and where it fails
+
+abbrev pub number_before : ℕ → ℕ → List ℕ → Number
+number_before n at rest = record { value = n; behind = record { at = at; bytes = rest } }
+
+is_digit_when : (b : ℕ) → Digit b → is_digit b ≡ true
+is_digit_when b digit = (decides_between 48 57 b).1 digit
+
+no_digit_when : (b : ℕ) → (Digit b → ⊥) → is_digit b ≡ false
+no_digit_when b other = false_from_decides _ (decides_between 48 57 b) other
+
+more_digits_read : (most value at : ℕ) (digits rest : List ℕ) (n : ℕ) → More most value digits n → more_digits most value at (digits ++ 10 ∷ rest) ≡ Ok (number_before n (at + length digits + 1) rest)
+more_digits_read zero value at [] rest n more = ap₂ (λ v m. Ok (number_before v m rest)) (sym more.comes) (omega arith)
+more_digits_read (suc most) value at [] rest n more = ap₂ (λ v m. Ok (number_before v m rest)) (sym more.comes) (omega arith)
+more_digits_read zero value at (d ∷ ds) rest n more = absurd (omega (arith, more.few))
+more_digits_read (suc most) value at (d ∷ ds) rest n more =
+    let fewer : More most (value * 10 + (d - 48)) ds n = record { few = omega (arith, more.few); decimal = All-tail Digit d ds more.decimal; comes = more.comes } in
+    cond-true _ _ _ (is_digit_when d (All-head Digit d ds more.decimal)) ∙ more_digits_read most (value * 10 + (d - 48)) (at + 1) ds rest n fewer
+    ∙ ap (λ m. Ok (number_before n m rest)) (omega arith)
+
+number_read : (at : ℕ) (digits rest : List ℕ) (n : ℕ) → Numeral digits n → number_line at (digits ++ 10 ∷ rest) ≡ Ok (number_before n (at + length digits + 1) rest)
+number_read at [] rest n numeral = absurd (omega (arith, numeral.some))
+number_read at (d ∷ ds) rest n numeral =
+    let more : More 2 (d - 48) ds n = record { few = omega (arith, numeral.most); decimal = All-tail Digit d ds numeral.decimal; comes = rw zero-add at numeral.value } in
+    cond-true _ _ _ (is_digit_when d (All-head Digit d ds numeral.decimal)) ∙ more_digits_read 2 (d - 48) (at + 1) ds rest n more
+    ∙ ap (λ m. Ok (number_before n m rest)) (omega arith)
+
+no_more_found : (most value at : ℕ) (bytes : List ℕ) (k : ℕ) → NoMore most bytes k → more_digits most value at bytes ≡ Err (fault Headless (at + k))
+no_more_found most value at [] k none = let there = none.there in ap (λ m. Err (fault Headless m)) (omega arith)
+no_more_found zero value at (b ∷ bs) zero none =
+    cond-false _ _ _ (ne_eqb b 10 none.departs.1) ∙ ap (λ m. Err (fault Headless m)) (sym (add-zero at))
+no_more_found zero value at (b ∷ bs) (suc k) none = absurd (omega (arith, none.few))
+no_more_found (suc most) value at (b ∷ bs) zero none =
+    cond-false _ _ _ (no_digit_when b (none.departs.0 (omega arith))) ∙ cond-false _ _ _ (ne_eqb b 10 none.departs.1) ∙ ap (λ m. Err (fault Headless m)) (sym (add-zero at))
+no_more_found (suc most) value at (b ∷ bs) (suc k) none =
+    let further : NoMore most bs k = record {
+      few = omega (arith, none.few);
+      there = omega (arith, none.there);
+      digits = All-tail Digit b (take k bs) none.digits;
+      departs = some_weaker (slice_get bs k) _ _ (λ c h. (λ fewer. h.0 (omega arith), h.1)) none.departs;
+    } in
+    cond-true _ _ _ (is_digit_when b (All-head Digit b (take k bs) none.digits)) ∙ no_more_found most (value * 10 + (b - 48)) (at + 1) bs k further
+    ∙ ap (λ m. Err (fault Headless m)) (omega arith)
+
+no_number_found : (at : ℕ) (bytes : List ℕ) (k : ℕ) → NoNumber bytes k → number_line at bytes ≡ Err (fault Headless (at + k))
+no_number_found at [] k none = let there = none.there in ap (λ m. Err (fault Headless m)) (omega arith)
+no_number_found at (b ∷ bs) zero none =
+    cond-false _ _ _ (no_digit_when b (none.departs.0 (omega arith))) ∙ ap (λ m. Err (fault Headless m)) (sym (add-zero at))
+no_number_found at (b ∷ bs) (suc k) none =
+    let further : NoMore 2 bs k = record {
+      few = omega (arith, none.most);
+      there = omega (arith, none.there);
+      digits = All-tail Digit b (take k bs) none.digits;
+      departs = some_weaker (slice_get bs k) _ _ (λ c h. (λ fewer. h.0 (omega arith), h.1 (omega arith))) none.departs;
+    } in
+    cond-true _ _ _ (is_digit_when b (All-head Digit b (take k bs) none.digits)) ∙ no_more_found 2 (b - 48) (at + 1) bs k further
+    ∙ ap (λ m. Err (fault Headless m)) (omega arith)
+
+module _ (at : ℕ) (digits rest : List ℕ) (n : ℕ) (numeral : Numeral digits n) where
+  pub size_read : InGauge n → size_line at (digits ++ 10 ∷ rest) ≡ Ok (number_before n (at + length digits + 1) rest)
+  size_read gauged =
+      bind_at (number_line at (digits ++ 10 ∷ rest)) _ _ (number_read at digits rest n numeral) ∙ passes _ _ _ _ (ap not ((decides_between 1 32 n).1 gauged)) refl
+
+  pub size_refused : (InGauge n → ⊥) → size_line at (digits ++ 10 ∷ rest) ≡ Err (fault Gauge at)
+  size_refused off =
+      bind_at (number_line at (digits ++ 10 ∷ rest)) _ _ (number_read at digits rest n numeral) ∙ refused _ _ _ (ap not (false_from_decides _ (decides_between 1 32 n) off))
+
+pub no_size_found : (at : ℕ) (bytes : List ℕ) (k : ℕ) → NoNumber bytes k → size_line at bytes ≡ Err (fault Headless (at + k))
+no_size_found at bytes k none = stage_fault (number_line at bytes) _ _ (no_number_found at bytes k none)

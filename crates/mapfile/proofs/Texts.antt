@@ -1,13 +1,12 @@
 -- A fixed text is passed exactly where it stands, and a fault is where the bytes depart from it.
-use Rattle.std.proofs.Common.{◌≡◌, ℕ, suc, ◌+◌, List, [], ◌∷◌, ◌++◌, length, Some, Result, refl, ap₂, arith, MatchResult}
-use Rattle.floor.specs.Checks.{◌>>=◌}
+use Rattle.std.proofs.Common.{◌≡◌, ℕ, zero, suc, ◌+◌, List, [], ◌∷◌, ◌++◌, length, Some, Ok, Err, refl, sym, ap, ap₂, ◌∙◌, add-zero, arith, MatchResult}
 use Rattle.maps.specs.declared.refusal.MapRefusal.TheVariants.{Headless}
 use Rattle.floor.proofs.Chains.{cond_tells}
 use Rattle.mapfile.specs.Faults.{fault}
 use Rattle.mapfile.specs.GridFiles.{Rest, after_text}
 use Rattle.mapfile.specs.GridLayout.{Departs}
 use Rattle.mapfile.specs.declared.fault.Fault.{Fault}
-use Rattle.std.proofs.lemmas.Bool.{eq-eqb}
+use Rattle.std.proofs.lemmas.Bool.{cond-false, cond-true, eq-eqb, ne_eqb}
 use Rattle.std.proofs.lemmas.Bool.Decides.{Decides-eqb}
 use Rattle.std.specs.List.{slice_get}
 
@@ -31,8 +30,19 @@ module _ (P : Rest → Type 0) (Q : Fault → Type 0) where
       (λ same. further (λ rest m is text. read rest m (omega arith) (ap₂ ◌∷◌ same text)) (λ k m is d. stop (suc k) m (omega arith) (departs_further same d)))
       (λ other. stop 0 at (omega arith) (departs_here (λ e. other (cc))))
 
--- where the text stands, the reading goes on behind it
-module _ {A : Type 0} (P : A → Type 0) (Q : Fault → Type 0) (next : Rest → Result A Fault) where
-  pub text_passes : (text : List ℕ) (at : ℕ) (rest : List ℕ) → ((m : ℕ) → MatchResult (next (record { at = m; bytes = rest })) P Q) → MatchResult (after_text text at (text ++ rest) >>= next) P Q
-  text_passes [] at rest passes = passes at
-  text_passes (t ∷ ts) at rest passes = rw (eq-eqb t t refl) (text_passes ts (at + 1) rest passes)
+-- where the text stands, what is left behind it
+pub text_passed : (text : List ℕ) (at : ℕ) (rest : List ℕ) → after_text text at (text ++ rest) ≡ Ok (record { at = at + length text; bytes = rest })
+text_passed [] at rest = ap (λ m. Ok (record { at = m; bytes = rest })) (sym (add-zero at))
+text_passed (t ∷ ts) at rest =
+    cond-true _ _ _ (eq-eqb t t refl) ∙ text_passed ts (at + 1) rest ∙ ap (λ m. Ok (record { at = m; bytes = rest })) (omega arith)
+
+-- where the bytes depart from it, the fault
+pub departure_found : (text : List ℕ) (at : ℕ) (bytes : List ℕ) (k : ℕ) → Departs text bytes k → after_text text at bytes ≡ Err (fault Headless (at + k))
+departure_found [] at bytes k d = absurd (omega (arith, d.within))
+departure_found (t ∷ ts) at [] k d = let there = d.there in ap (λ m. Err (fault Headless m)) (omega arith)
+departure_found (t ∷ ts) at (b ∷ bs) zero d =
+    cond-false _ _ _ (ne_eqb b t (λ e. d.departs (ap Some e))) ∙ ap (λ m. Err (fault Headless m)) (sym (add-zero at))
+departure_found (t ∷ ts) at (b ∷ bs) (suc k) d =
+    let same = d.same in
+    let further : Departs ts bs k = record { within = omega (arith, d.within); there = omega (arith, d.there); same = cc; departs = d.departs } in
+    cond-true _ _ _ (eq-eqb b t (cc)) ∙ departure_found ts (at + 1) bs k further ∙ ap (λ m. Err (fault Headless m)) (omega arith)

@@ -109,6 +109,6 @@ pub data GridFault (bytes : List ℕ) : MapRefusal → ℕ → Type 0 where
   no_map_line : (height width : ℕ) (front rest : List ℕ) (k : ℕ) → bytes ≡ front ++ rest → ToWidth height width front → Departs map_text rest k → GridFault bytes Headless (length front + k)
   wrong_rows : (height width : ℕ) (front rest : List ℕ) (e : MapRefusal) (k : ℕ) → bytes ≡ front ++ (map_text ++ rest) → ToWidth height width front → WrongBody height width rest e k → GridFault bytes e (length (front ++ map_text) + k)
 
--- a fault is the first one, and stands where it says
-abbrev pub GridFaultIsFirst : List ℕ → Type 0
-GridFaultIsFirst bytes = (f : Fault) → grid_reading bytes ≡ Err f → GridFault bytes f.refusal f.offset
+-- a fault is told exactly when it is the first one, and stands where it says
+abbrev pub GridFaultsExactly : List ℕ → Type 0
+GridFaultsExactly bytes = (f : Fault) → (grid_reading bytes ≡ Err f) ↔ GridFault bytes f.refusal f.offset

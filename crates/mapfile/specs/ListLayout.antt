@@ -49,6 +49,6 @@ pub data ListFault (bytes : List ℕ) : MapRefusal → ℕ → Type 0 where
   at_beginning : {e : MapRefusal} {k : ℕ} → NoBeginning bytes e k → ListFault bytes e k
   at_command : {e : MapRefusal} (n : Network) (rest : List ℕ) (k : ℕ) → Proper n → bytes ≡ list_text n ++ rest → NoContinuing n rest e k → ListFault bytes e (length (list_text n) + k)
 
--- a fault is the first one, and stands where it says
-abbrev pub ListFaultIsFirst : List ℕ → Type 0
-ListFaultIsFirst bytes = (f : Fault) → list_reading bytes ≡ Err f → ListFault bytes f.refusal f.offset
+-- a fault is told exactly when it is the first one, and stands where it says
+abbrev pub ListFaultsExactly : List ℕ → Type 0
+ListFaultsExactly bytes = (f : Fault) → (list_reading bytes ≡ Err f) ↔ ListFault bytes f.refusal f.offset

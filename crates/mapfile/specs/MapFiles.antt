@@ -39,6 +39,6 @@ abbrev pub FaultAs : Bool → List ℕ → MapRefusal → ℕ → Type 0
 FaultAs true bytes e k = ListFault bytes e k
 FaultAs false bytes e k = GridFault bytes e k
 
--- a fault is the first one of the layout that the bytes begin as, and stands where it says
-abbrev pub MapFaultIsFirst : List ℕ → Type 0
-MapFaultIsFirst bytes = (f : Fault) → map_reading bytes ≡ Err f → FaultAs (is_list bytes) bytes f.refusal f.offset
+-- a fault is told exactly when it is the first one of the layout that the bytes begin as, and stands where it says
+abbrev pub MapFaultsExactly : List ℕ → Type 0
+MapFaultsExactly bytes = (f : Fault) → (map_reading bytes ≡ Err f) ↔ FaultAs (is_list bytes) bytes f.refusal f.offset

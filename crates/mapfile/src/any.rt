@@ -1,7 +1,7 @@
 ghost use Rattle.std.specs.Prelude.{◌≡◌};
 ghost use Rattle.maps.specs.AnyMaps.{hall_of};
 ghost use Rattle.mapfile.specs.Faults.{Answers};
-ghost use Rattle.mapfile.specs.MapFiles.{is_list, map_reading, MapReadExactly, MapFaultIsFirst};
+ghost use Rattle.mapfile.specs.MapFiles.{is_list, map_reading, MapReadExactly, MapFaultsExactly};
 
 use crate::fault::ReadError;
 use crate::grid::read_grid;
@@ -13,7 +13,7 @@ use std::alloc::Global;
 pub fn read_map(heap: Global, bytes: &[u8]) -> Result<AnyMap, ReadError>
     ensures reads { Answers hall_of (map_reading bytes.now) result }
     ensures exactly { MapReadExactly bytes.now }
-    ensures first { MapFaultIsFirst bytes.now }
+    ensures faults { MapFaultsExactly bytes.now }
 {
     if is_list(bytes) {
         read_list(heap, bytes).map(AnyMap::List)

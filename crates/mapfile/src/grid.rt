@@ -2,7 +2,7 @@ ghost use Rattle.std.specs.Prelude.{◌≡◌, vec_items};
 ghost use Rattle.maps.specs.GridMaps.{grid_of};
 ghost use Rattle.mapfile.specs.Faults.{Answers};
 ghost use Rattle.mapfile.specs.GridFiles.{body, grid_reading};
-ghost use Rattle.mapfile.specs.GridLayout.{GridReadExactly, GridFaultIsFirst};
+ghost use Rattle.mapfile.specs.GridLayout.{GridReadExactly, GridFaultsExactly};
 ghost use Rattle.mapfile.specs.GridReads.{ReadsCell, ReadsRow, behind_heading};
 
 use crate::cursor::Cursor;
@@ -19,11 +19,11 @@ pub struct Heading<'a> {
 }
 
 // A map in the grid layout.
-#[tactic(auto, using(crate::proofs::GridLayout::grid_fault_is_first))]
+#[tactic(auto, using(crate::proofs::GridLayout::grid_faults_exactly))]
 pub fn read_grid(heap: Global, bytes: &[u8]) -> Result<GridMap, ReadError>
     ensures reads { Answers grid_of (grid_reading bytes.now) result }
     ensures exactly { GridReadExactly bytes.now }
-    ensures first { GridFaultIsFirst bytes.now }
+    ensures faults { GridFaultsExactly bytes.now }
 {
     let heading = read_heading(bytes)?;
     let free = read_cells(heap, heading)?;

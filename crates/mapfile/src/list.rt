@@ -2,7 +2,7 @@ ghost use Rattle.std.specs.Prelude.{◌≡◌, ◌+◌, ◌^◌, ◌<◌, ◌≤
 ghost use Rattle.maps.specs.ListMaps.{network_of};
 ghost use Rattle.mapfile.specs.Faults.{Answers};
 ghost use Rattle.mapfile.specs.ListFiles.{beginning, list_reading, word};
-ghost use Rattle.mapfile.specs.ListLayout.{ListReadExactly, ListFaultIsFirst};
+ghost use Rattle.mapfile.specs.ListLayout.{ListReadExactly, ListFaultsExactly};
 ghost use Rattle.mapfile.specs.ListReads.{Connects, error_at};
 
 use crate::fault::{Fault, ReadError};
@@ -14,7 +14,7 @@ use std::alloc::Global;
 pub fn read_list(heap: Global, bytes: &[u8]) -> Result<ListMap, ReadError>
     ensures reads { Answers network_of (list_reading bytes.now) result }
     ensures exactly { ListReadExactly bytes.now }
-    ensures first { ListFaultIsFirst bytes.now }
+    ensures faults { ListFaultsExactly bytes.now }
 {
     let mut map = read_count(heap, bytes)?;
     for (i, command) in bytes[3..].chunks(5).enumerate() {

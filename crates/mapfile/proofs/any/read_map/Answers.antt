@@ -5,7 +5,7 @@ use Rattle.maps.specs.ListMaps.{network_of}
 use Rattle.maps.specs.declared.any.AnyMap.TheVariants.{List as ListKind, Grid as GridKind}
 use Rattle.mapfile.specs.GridFiles.{grid_reading}
 use Rattle.mapfile.specs.ListFiles.{list_reading}
-use Rattle.mapfile.proofs.MapFiles.{read_as_list, read_as_grid, kind_answers, list_exactly, grid_exactly, list_first, grid_first}
+use Rattle.mapfile.proofs.MapFiles.{read_as_list, read_as_grid, kind_answers, list_exactly, grid_exactly, list_faults, grid_faults}
 use Rattle.mapfile.proofs.any.read_map.Goals as goal
 
 pub returns-then-is_list : goal.returns-then-is_list
@@ -16,7 +16,7 @@ returns-then-is_list c =
     record {
       reads = kind_answers bytes listed (list_reading bytes) (read_as_list bytes is) network_of ListKind (λ m. refl) c.read_list.result c.read_list.ensures.reads c.map.result tells;
       exactly = list_exactly bytes is c.read_list.ensures.exactly;
-      first = list_first bytes is c.read_list.ensures.first;
+      faults = list_faults bytes is c.read_list.ensures.faults;
     }
 
 pub returns-else-is_list : goal.returns-else-is_list
@@ -27,5 +27,5 @@ returns-else-is_list c =
     record {
       reads = kind_answers bytes gridded (grid_reading bytes) (read_as_grid bytes is) grid_of GridKind (λ m. refl) c.read_grid.result c.read_grid.ensures.reads c.map-else-is_list.result tells;
       exactly = grid_exactly bytes is c.read_grid.ensures.exactly;
-      first = grid_first bytes is c.read_grid.ensures.first;
+      faults = grid_faults bytes is c.read_grid.ensures.faults;
     }

@@ -3,7 +3,7 @@ use Rattle.std.specs.Iterator.Adapters.{enumerate_source, enumerate_count}
 use Rattle.maps.specs.ListMaps.{network_of}
 use Rattle.mapfile.specs.ListFiles.{beginning, connecting, list_reading}
 use Rattle.mapfile.proofs.FaultAnswers.{answers_fault, answers_error, stage_error}
-use Rattle.mapfile.proofs.ListLayout.{list_read_exactly, list_fault_is_first}
+use Rattle.mapfile.proofs.ListLayout.{list_read_exactly, list_faults_exactly}
 use Rattle.mapfile.proofs.ListSteps.{beginning_first, beginning_leads, bytes_fit, goes_on, stops}
 use Rattle.mapfile.proofs.list.read_list.Goals as goal
 
@@ -14,7 +14,7 @@ returns-in_err-map c =
     record {
       reads = answers_error network_of (list_reading bytes) c.from_residual.result c.in_err-map.field-0.0 (stage_error (list_reading bytes) (beginning bytes) (λ n. connecting n 3 (drop 3 bytes)) (beginning_first bytes) c.in_err-map.field-0.0 c.in_err-map.ensures.reads) c.from_residual.ensures.1;
       exactly = list_read_exactly bytes fit;
-      first = list_fault_is_first bytes fit;
+      faults = list_faults_exactly bytes fit;
     }
 
 pub loop-i-init : goal.loop-i-init
@@ -44,8 +44,11 @@ returns-in_err-read_connection c =
     record {
       reads = answers_fault network_of (list_reading bytes) c.from_residual-in_err-read_connection.result c.in_err-read_connection.field-0.0 (stops _ (network_of c.loop-i.map) (network_of c.read_connection.new.map) c.in-Some.i _ c.in-Some.command.now _ _ step.1 step.0.1.0 c.loop-i.invariant.0 _ (rw c.loop-i.invariant.1 at step.0.1.1) c.in_err-read_connection.ensures.reads) c.from_residual-in_err-read_connection.ensures.1;
       exactly = list_read_exactly bytes fit;
-      first = list_fault_is_first bytes fit;
+      faults = list_faults_exactly bytes fit;
     }
 
 pub returns-clause-exactly : goal.returns-clause-exactly
 returns-clause-exactly c = list_read_exactly c.args.bytes.now (bytes_fit c.args.bytes.now c.type_inv.bytes)
+
+pub returns-clause-faults : goal.returns-clause-faults
+returns-clause-faults c = list_faults_exactly c.args.bytes.now (bytes_fit c.args.bytes.now c.type_inv.bytes)
