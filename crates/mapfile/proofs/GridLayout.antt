@@ -8,8 +8,8 @@ use Rattle.mapfile.proofs.Bodies.{body_fails, rows_read}
 use Rattle.mapfile.proofs.FaultAnswers.{stage_fault}
 use Rattle.mapfile.proofs.GridStages.{behind_opening, height_read, map_named, opened, width_named, width_read}
 use Rattle.mapfile.proofs.GridTells.{Laid, Faulty, grid_reading_tells}
-use Rattle.mapfile.proofs.Numerals.{no_size_found, size_refused}
-use Rattle.mapfile.proofs.Texts.{departure_found}
+use Rattle.mapfile.proofs.Numerals.{size_fails, size_refused}
+use Rattle.mapfile.proofs.Texts.{text_fails}
 use Rattle.mapfile.specs.Faults.{fault}
 use Rattle.mapfile.specs.GridFiles.{opening_text, width_text, map_text, after_text, size_line, body, grid_reading}
 use Rattle.mapfile.specs.GridLayout.{lines, GridFault, GridFaultsExactly, GridReadExactly, GridText, ToHeight, ToWidth, height_off_gauge, no_height, no_map_line, no_width, no_width_label, not_opened, width_off_gauge, wrong_rows}
@@ -45,21 +45,21 @@ grid_read_exactly bytes g =
 fault_found : (bytes : List ℕ) (e : MapRefusal) (k : ℕ) → GridFault bytes e k → grid_reading bytes ≡ Err (fault e k)
 unfolding grid_reading
 fault_found bytes e k (not_opened at departs) =
-    stage_fault (after_text opening_text 0 bytes) behind_opening _ (departure_found opening_text 0 bytes at departs ∙ ap (λ m. Err (fault Headless m)) (zero-add at))
+    stage_fault (after_text opening_text 0 bytes) behind_opening _ (text_fails opening_text 0 bytes at departs ∙ ap (λ m. Err (fault Headless m)) (zero-add at))
 fault_found bytes e k (no_height rest at text none) =
-    ap grid_reading text ∙ opened rest ∙ stage_fault (size_line (length opening_text) rest) _ _ (no_size_found (length opening_text) rest at none)
+    ap grid_reading text ∙ opened rest ∙ stage_fault (size_line (length opening_text) rest) _ _ (size_fails (length opening_text) rest at none)
 fault_found bytes e k (height_off_gauge digits rest n text numeral off) =
     ap grid_reading text ∙ opened (digits ++ 10 ∷ rest)
     ∙ stage_fault (size_line (length opening_text) (digits ++ 10 ∷ rest)) _ _ (size_refused (length opening_text) digits rest n numeral off)
 fault_found bytes e k (no_width_label height front rest at text headed departs) =
-    ap grid_reading text ∙ height_read height front rest headed ∙ stage_fault (after_text width_text (length front) rest) _ _ (departure_found width_text (length front) rest at departs)
+    ap grid_reading text ∙ height_read height front rest headed ∙ stage_fault (after_text width_text (length front) rest) _ _ (text_fails width_text (length front) rest at departs)
 fault_found bytes e k (no_width height front rest at text headed none) =
-    ap grid_reading text ∙ width_named height front rest headed ∙ stage_fault (size_line (length (front ++ width_text)) rest) _ _ (no_size_found (length (front ++ width_text)) rest at none)
+    ap grid_reading text ∙ width_named height front rest headed ∙ stage_fault (size_line (length (front ++ width_text)) rest) _ _ (size_fails (length (front ++ width_text)) rest at none)
 fault_found bytes e k (width_off_gauge height front digits rest n text headed numeral off) =
     ap grid_reading text ∙ width_named height front (digits ++ 10 ∷ rest) headed
     ∙ stage_fault (size_line (length (front ++ width_text)) (digits ++ 10 ∷ rest)) _ _ (size_refused (length (front ++ width_text)) digits rest n numeral off)
 fault_found bytes e k (no_map_line height width front rest at text headed departs) =
-    ap grid_reading text ∙ width_read height width front rest headed ∙ stage_fault (after_text map_text (length front) rest) _ _ (departure_found map_text (length front) rest at departs)
+    ap grid_reading text ∙ width_read height width front rest headed ∙ stage_fault (after_text map_text (length front) rest) _ _ (text_fails map_text (length front) rest at departs)
 fault_found bytes e k (wrong_rows height width front rest d at text headed wrong) =
     ap grid_reading text ∙ map_named height width front rest headed
     ∙ stage_fault (body height width width (length (front ++ map_text)) rest) _ _ (body_fails width height (length (front ++ map_text)) rest d at wrong)

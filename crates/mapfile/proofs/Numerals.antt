@@ -57,10 +57,14 @@ no_number_from_more {b} {bytes} {k} digit none = record {
   departs = some_weaker (slice_get bytes k) _ _ (λ c h. (λ fewer. h.0 (omega arith), λ _. h.1)) none.departs;
 }
 
--- what is done with a number that is read, with one that is surely read, and where none is
+-- a number, and what is left behind its line
+abbrev pub number_and_rest : ℕ → ℕ → List ℕ → Number
+number_and_rest n at rest = record { value = n; behind = record { at = at; bytes = rest } }
+
+-- what is done with a number that is read, and where none is
 abbrev Reads : (Number → Type 0) → (List ℕ → ℕ → Type 0) → ℕ → List ℕ → Type 0
 Reads P Is at bytes =
-    (digits rest : List ℕ) (n m : ℕ) → Is digits n → m ≡ at + length digits + 1 → bytes ≡ digits ++ 10 ∷ rest → P (record { value = n; behind = record { at = m; bytes = rest } })
+    (digits rest : List ℕ) (n m : ℕ) → Is digits n → m ≡ at + length digits + 1 → bytes ≡ digits ++ 10 ∷ rest → P (number_and_rest n m rest)
 
 abbrev Stops : (Fault → Type 0) → (ℕ → Type 0) → ℕ → Type 0
 Stops Q IsNone at = (k m : ℕ) → IsNone k → m ≡ at + k → Q (fault Headless m)
@@ -101,64 +105,61 @@ module _ (P : Number → Type 0) (Q : Fault → Type 0) where
 
 -- ---- what a line gives, and where it fails
 
-abbrev pub number_before : ℕ → ℕ → List ℕ → Number
-number_before n at rest = record { value = n; behind = record { at = at; bytes = rest } }
-
 is_digit_when : (b : ℕ) → Digit b → is_digit b ≡ true
 is_digit_when b digit = (decides_between 48 57 b).1 digit
 
 no_digit_when : (b : ℕ) → (Digit b → ⊥) → is_digit b ≡ false
 no_digit_when b other = false_from_decides _ (decides_between 48 57 b) other
 
-more_digits_read : (most value at : ℕ) (digits rest : List ℕ) (n : ℕ) → More most value digits n → more_digits most value at (digits ++ 10 ∷ rest) ≡ Ok (number_before n (at + length digits + 1) rest)
-more_digits_read zero value at [] rest n more = ap₂ (λ v m. Ok (number_before v m rest)) (sym more.comes) (omega arith)
-more_digits_read (suc most) value at [] rest n more = ap₂ (λ v m. Ok (number_before v m rest)) (sym more.comes) (omega arith)
+more_digits_read : (most value at : ℕ) (digits rest : List ℕ) (n : ℕ) → More most value digits n → more_digits most value at (digits ++ 10 ∷ rest) ≡ Ok (number_and_rest n (at + length digits + 1) rest)
+more_digits_read zero value at [] rest n more = ap₂ (λ v m. Ok (number_and_rest v m rest)) (sym more.comes) (omega arith)
+more_digits_read (suc most) value at [] rest n more = ap₂ (λ v m. Ok (number_and_rest v m rest)) (sym more.comes) (omega arith)
 more_digits_read zero value at (d ∷ ds) rest n more = absurd (omega (arith, more.few))
 more_digits_read (suc most) value at (d ∷ ds) rest n more =
     let fewer : More most (value * 10 + (d - 48)) ds n = record { few = omega (arith, more.few); decimal = All-tail Digit d ds more.decimal; comes = more.comes } in
     cond-true _ _ _ (is_digit_when d (All-head Digit d ds more.decimal)) ∙ more_digits_read most (value * 10 + (d - 48)) (at + 1) ds rest n fewer
-    ∙ ap (λ m. Ok (number_before n m rest)) (omega arith)
+    ∙ ap (λ m. Ok (number_and_rest n m rest)) (omega arith)
 
-number_read : (at : ℕ) (digits rest : List ℕ) (n : ℕ) → Numeral digits n → number_line at (digits ++ 10 ∷ rest) ≡ Ok (number_before n (at + length digits + 1) rest)
+number_read : (at : ℕ) (digits rest : List ℕ) (n : ℕ) → Numeral digits n → number_line at (digits ++ 10 ∷ rest) ≡ Ok (number_and_rest n (at + length digits + 1) rest)
 number_read at [] rest n numeral = absurd (omega (arith, numeral.some))
 number_read at (d ∷ ds) rest n numeral =
     let more : More 2 (d - 48) ds n = record { few = omega (arith, numeral.most); decimal = All-tail Digit d ds numeral.decimal; comes = rw zero-add at numeral.value } in
     cond-true _ _ _ (is_digit_when d (All-head Digit d ds numeral.decimal)) ∙ more_digits_read 2 (d - 48) (at + 1) ds rest n more
-    ∙ ap (λ m. Ok (number_before n m rest)) (omega arith)
+    ∙ ap (λ m. Ok (number_and_rest n m rest)) (omega arith)
 
-no_more_found : (most value at : ℕ) (bytes : List ℕ) (k : ℕ) → NoMore most bytes k → more_digits most value at bytes ≡ Err (fault Headless (at + k))
-no_more_found most value at [] k none = let there = none.there in ap (λ m. Err (fault Headless m)) (omega arith)
-no_more_found zero value at (b ∷ bs) zero none =
+more_digits_fail : (most value at : ℕ) (bytes : List ℕ) (k : ℕ) → NoMore most bytes k → more_digits most value at bytes ≡ Err (fault Headless (at + k))
+more_digits_fail most value at [] k none = let there = none.there in ap (λ m. Err (fault Headless m)) (omega arith)
+more_digits_fail zero value at (b ∷ bs) zero none =
     cond-false _ _ _ (ne_eqb b 10 none.departs.1) ∙ ap (λ m. Err (fault Headless m)) (sym (add-zero at))
-no_more_found zero value at (b ∷ bs) (suc k) none = absurd (omega (arith, none.few))
-no_more_found (suc most) value at (b ∷ bs) zero none =
+more_digits_fail zero value at (b ∷ bs) (suc k) none = absurd (omega (arith, none.few))
+more_digits_fail (suc most) value at (b ∷ bs) zero none =
     cond-false _ _ _ (no_digit_when b (none.departs.0 (omega arith))) ∙ cond-false _ _ _ (ne_eqb b 10 none.departs.1) ∙ ap (λ m. Err (fault Headless m)) (sym (add-zero at))
-no_more_found (suc most) value at (b ∷ bs) (suc k) none =
+more_digits_fail (suc most) value at (b ∷ bs) (suc k) none =
     let further : NoMore most bs k = record {
       few = omega (arith, none.few);
       there = omega (arith, none.there);
       digits = All-tail Digit b (take k bs) none.digits;
       departs = some_weaker (slice_get bs k) _ _ (λ c h. (λ fewer. h.0 (omega arith), h.1)) none.departs;
     } in
-    cond-true _ _ _ (is_digit_when b (All-head Digit b (take k bs) none.digits)) ∙ no_more_found most (value * 10 + (b - 48)) (at + 1) bs k further
+    cond-true _ _ _ (is_digit_when b (All-head Digit b (take k bs) none.digits)) ∙ more_digits_fail most (value * 10 + (b - 48)) (at + 1) bs k further
     ∙ ap (λ m. Err (fault Headless m)) (omega arith)
 
-no_number_found : (at : ℕ) (bytes : List ℕ) (k : ℕ) → NoNumber bytes k → number_line at bytes ≡ Err (fault Headless (at + k))
-no_number_found at [] k none = let there = none.there in ap (λ m. Err (fault Headless m)) (omega arith)
-no_number_found at (b ∷ bs) zero none =
+number_fails : (at : ℕ) (bytes : List ℕ) (k : ℕ) → NoNumber bytes k → number_line at bytes ≡ Err (fault Headless (at + k))
+number_fails at [] k none = let there = none.there in ap (λ m. Err (fault Headless m)) (omega arith)
+number_fails at (b ∷ bs) zero none =
     cond-false _ _ _ (no_digit_when b (none.departs.0 (omega arith))) ∙ ap (λ m. Err (fault Headless m)) (sym (add-zero at))
-no_number_found at (b ∷ bs) (suc k) none =
+number_fails at (b ∷ bs) (suc k) none =
     let further : NoMore 2 bs k = record {
       few = omega (arith, none.most);
       there = omega (arith, none.there);
       digits = All-tail Digit b (take k bs) none.digits;
       departs = some_weaker (slice_get bs k) _ _ (λ c h. (λ fewer. h.0 (omega arith), h.1 (omega arith))) none.departs;
     } in
-    cond-true _ _ _ (is_digit_when b (All-head Digit b (take k bs) none.digits)) ∙ no_more_found 2 (b - 48) (at + 1) bs k further
+    cond-true _ _ _ (is_digit_when b (All-head Digit b (take k bs) none.digits)) ∙ more_digits_fail 2 (b - 48) (at + 1) bs k further
     ∙ ap (λ m. Err (fault Headless m)) (omega arith)
 
 module _ (at : ℕ) (digits rest : List ℕ) (n : ℕ) (numeral : Numeral digits n) where
-  pub size_read : InGauge n → size_line at (digits ++ 10 ∷ rest) ≡ Ok (number_before n (at + length digits + 1) rest)
+  pub size_read : InGauge n → size_line at (digits ++ 10 ∷ rest) ≡ Ok (number_and_rest n (at + length digits + 1) rest)
   size_read gauged =
       bind_at (number_line at (digits ++ 10 ∷ rest)) _ _ (number_read at digits rest n numeral) ∙ passes _ _ _ _ (ap not ((decides_between 1 32 n).1 gauged)) refl
 
@@ -166,5 +167,5 @@ module _ (at : ℕ) (digits rest : List ℕ) (n : ℕ) (numeral : Numeral digits
   size_refused off =
       bind_at (number_line at (digits ++ 10 ∷ rest)) _ _ (number_read at digits rest n numeral) ∙ refused _ _ _ (ap not (false_from_decides _ (decides_between 1 32 n) off))
 
-pub no_size_found : (at : ℕ) (bytes : List ℕ) (k : ℕ) → NoNumber bytes k → size_line at bytes ≡ Err (fault Headless (at + k))
-no_size_found at bytes k none = stage_fault (number_line at bytes) _ _ (no_number_found at bytes k none)
+pub size_fails : (at : ℕ) (bytes : List ℕ) (k : ℕ) → NoNumber bytes k → size_line at bytes ≡ Err (fault Headless (at + k))
+size_fails at bytes k none = stage_fault (number_line at bytes) _ _ (number_fails at bytes k none)

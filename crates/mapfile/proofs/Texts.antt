@@ -37,12 +37,12 @@ text_passed (t ∷ ts) at rest =
     cond-true _ _ _ (eq-eqb t t refl) ∙ text_passed ts (at + 1) rest ∙ ap (λ m. Ok (record { at = m; bytes = rest })) (omega arith)
 
 -- where the bytes depart from it, the fault
-pub departure_found : (text : List ℕ) (at : ℕ) (bytes : List ℕ) (k : ℕ) → Departs text bytes k → after_text text at bytes ≡ Err (fault Headless (at + k))
-departure_found [] at bytes k d = absurd (omega (arith, d.within))
-departure_found (t ∷ ts) at [] k d = let there = d.there in ap (λ m. Err (fault Headless m)) (omega arith)
-departure_found (t ∷ ts) at (b ∷ bs) zero d =
+pub text_fails : (text : List ℕ) (at : ℕ) (bytes : List ℕ) (k : ℕ) → Departs text bytes k → after_text text at bytes ≡ Err (fault Headless (at + k))
+text_fails [] at bytes k d = absurd (omega (arith, d.within))
+text_fails (t ∷ ts) at [] k d = let there = d.there in ap (λ m. Err (fault Headless m)) (omega arith)
+text_fails (t ∷ ts) at (b ∷ bs) zero d =
     cond-false _ _ _ (ne_eqb b t (λ e. d.departs (ap Some e))) ∙ ap (λ m. Err (fault Headless m)) (sym (add-zero at))
-departure_found (t ∷ ts) at (b ∷ bs) (suc k) d =
+text_fails (t ∷ ts) at (b ∷ bs) (suc k) d =
     let same = d.same in
     let further : Departs ts bs k = record { within = omega (arith, d.within); there = omega (arith, d.there); same = cc; departs = d.departs } in
-    cond-true _ _ _ (eq-eqb b t (cc)) ∙ departure_found ts (at + 1) bs k further ∙ ap (λ m. Err (fault Headless m)) (omega arith)
+    cond-true _ _ _ (eq-eqb b t (cc)) ∙ text_fails ts (at + 1) bs k further ∙ ap (λ m. Err (fault Headless m)) (omega arith)
