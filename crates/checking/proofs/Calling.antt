@@ -121,8 +121,8 @@ module _ (o : Opening) (b : Book) (f : Floor) (trips : List Trip) (bans : List B
 
 pub verdict_told : (o : Opening) (b : Book) → Ok tt ≡ opened o → (branches missing sum : ℕ) → branches ≡ length (tally_in b).branches → missing ≡ unshown o (tally_in b) →
     sum ≡ shown_sum o (tally_in b) → verdict_of (Ok tt) branches missing sum o.claim ≡ (standing o (tally_in b)).verdict
-verdict_told o b opens branches missing sum counted unshown-is sum_is_lem =
-    ap₂ (λ r n. verdict_of r n missing sum o.claim) opens counted ∙ ap₂ (λ m s. verdict_of (opened o) (length (tally_in b).branches) m s o.claim) unshown-is sum_is_lem
+verdict_told o b opens branches missing sum counted missed summed =
+    ap₂ (λ r n. verdict_of r n missing sum o.claim) opens counted ∙ ap₂ (λ m s. verdict_of (opened o) (length (tally_in b).branches) m s o.claim) missed summed
 
 -- ---- room for a split and for a route
 

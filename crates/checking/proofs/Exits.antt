@@ -112,7 +112,7 @@ module _ (o : Opening) (t : Tally) (letter : ℕ) (bytes : List ℕ) where
 module _ (o : Opening) (t : Tally) (a : ℕ) (ps : List ℕ) where
   -- once the route test has answered
   abbrev showing_by : Result (Unit {0}) RouteRefusal → Result Tally Refusal
-  showing_by tested-so-far = result_map_both (λ x. x) from_route tested-so-far >> (refuse (some (λ s. in_conflict ps s.places) t.shown) InConflict >> Ok (with_route t a ps))
+  showing_by tested_so_far = result_map_both (λ x. x) from_route tested_so_far >> (refuse (some (λ s. in_conflict ps s.places) t.shown) InConflict >> Ok (with_route t a ps))
 
   abbrev pub route_answer : Result (Unit {0}) RouteRefusal
   route_answer = route_check o.floor (start_of o.trips a) (target_of o.trips a) ps
@@ -137,7 +137,7 @@ module _ (o : Opening) (t : Tally) (a : ℕ) (ps : List ℕ) where
 
       module _ (route : route_answer ≡ Ok tt) where
         pub show_conflict : some (λ s. in_conflict ps s.places) t.shown ≡ true → showing o t a ps ≡ Err InConflict
-        show_conflict there-is = show_tested (Ok tt) route ∙ refused _ InConflict _ there-is
+        show_conflict found = show_tested (Ok tt) route ∙ refused _ InConflict _ found
 
         pub show_taken : some (λ s. in_conflict ps s.places) t.shown ≡ false → showing o t a ps ≡ Ok (with_route t a ps)
         show_taken none = show_tested (Ok tt) route ∙ passes _ InConflict _ _ none refl

@@ -3,6 +3,6 @@ pub mod OpeningTests
 pub mod KeptRoutes
 pub mod Exits
 pub mod Calling
-pub mod Promising
+pub mod SoundAndComplete
 pub mod Running
 pub mod Totals

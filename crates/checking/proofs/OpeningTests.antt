@@ -24,7 +24,7 @@ pub opened_by :
     (o : Opening) (few small on_floor apart : Bool) → few ≡ (leb 1 (carts o) && leb (carts o) 16) → small ≡ leb o.claim 4000 → on_floor ≡ every_below (is_on_floor o) (carts o)
     → apart ≡ every_below (λ a. every_below (are_apart o a) a) (carts o) → answer_by few small on_floor apart ≡ opened o
 unfolding opened
-opened_by o few small on_floor apart few-is small_is on-floor-is apart-is = cc
+opened_by o few small on_floor apart few_is small_is on_floor_is apart_is = cc
 
 -- p tests the element at each index as q tests the index
 module _ {A : Type 0} (p : A → Bool) (q : ℕ → Bool) (xs : List A) (d : A) (each : (k : ℕ) → k < length xs → p (get_or xs k d) ≡ q k) where

@@ -52,12 +52,12 @@ count_rights bans others = to_depth (length others) (omega arith) ∙ ap (count_
 pub rights_none : (bans : List Ban) (others : List (Option Ban)) → rights bans (others ++ (None ∷ [])) (length (others ++ (None ∷ []))) ≡ rights bans others (length others)
 rights_none bans others = rights_push bans others None
 
-module _ (bans : List Ban) (others : List (Option Ban)) (in-bans : length others < length bans) where
+module _ (bans : List Ban) (others : List (Option Ban)) (in_bans : length others < length bans) where
   -- one split more, with its left side taken
   pub open_split : (left right : Ban) → open_at (set bans (length others) left) (others ++ (Some right ∷ [])) ≡
       under (branch (take (length others) bans)) left ∷ (under (branch (take (length others) bans)) right ∷ rights bans others (length others))
   open_split left right =
-      ap₂ ◌∷◌ (ap (λ n. branch (take n (set bans (length others) left))) (length_push others (Some right)) ∙ ap branch (take_more_set bans (length others) left in-bans) ∙ under_is (take (length others) bans) left)
+      ap₂ ◌∷◌ (ap (λ n. branch (take n (set bans (length others) left))) (length_push others (Some right)) ∙ ap branch (take_more_set bans (length others) left in_bans) ∙ under_is (take (length others) bans) left)
       (rights_push (set bans (length others) left) others (Some right) ∙
       ap₂ (λ way more. branch (way ++ (right ∷ [])) ∷ more) (take-set bans (length others) left) (rights_set bans others (length others) (length others) left (omega arith)) ∙
       ap (λ b. b ∷ rights bans others (length others)) (under_is (take (length others) bans) right))
@@ -65,6 +65,6 @@ module _ (bans : List Ban) (others : List (Option Ban)) (in-bans : length others
   -- the right side in the place of the left one
   pub open_right : (right : Ban) → open_at (set bans (length others) right) (others ++ (None ∷ [])) ≡ rights bans (others ++ (Some right ∷ [])) (length (others ++ (Some right ∷ [])))
   open_right right =
-      ap₂ (λ way more. branch way ∷ more) (ap (λ n. take n (set bans (length others) right)) (length_push others None) ∙ take_more_set bans (length others) right in-bans)
+      ap₂ (λ way more. branch way ∷ more) (ap (λ n. take n (set bans (length others) right)) (length_push others None) ∙ take_more_set bans (length others) right in_bans)
       (rights_none (set bans (length others) right) others ∙ rights_set bans others (length others) (length others) right (omega arith)) ∙
       sym (rights_push bans others (Some right))

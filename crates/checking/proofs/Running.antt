@@ -1,51 +1,61 @@
 -- How a check, and the steps told of it, go on call by call.
-use Rattle.std.proofs.Common.{◌≡◌, ℕ, ◌+◌, ◌<◌, List, [], ◌∷◌, ◌++◌, map, length, get_or, take, Result, sym, ap, ◌∙◌, subst, ap₂, subst₂}
-use Rattle.std.proofs.lemmas.List.{get_or-map, length-map, take_more}
-use Rattle.tally.specs.CallAnswers.{after, after_all, answer}
-use Rattle.tally.specs.Calls.{Call as Meant, close}
+use Rattle.std.proofs.Common.{◌≡◌, ℕ, zero, suc, ◌+◌, ◌<◌, List, [], ◌∷◌, ◌++◌, length, get_or, set, take, drop, Some, Result, refl, ap, ◌∙◌, add-one, arith}
+use Rattle.tally.specs.CallAnswers.{after, after_all}
 use Rattle.tally.specs.Openings.{Opening}
 use Rattle.tally.specs.Standings.{standing}
 use Rattle.tally.specs.Tallies.{Tally, at_start}
 use Rattle.tally.specs.declared.refusal.Refusal.{Refusal}
 use Rattle.tally.specs.declared.standing.Standing.{Standing}
-use Rattle.tally.proofs.Reaching.{after_more}
 use Rattle.checking.specs.Books.{tally_in}
-use Rattle.checking.specs.CallsMade.{meant}
+use Rattle.checking.specs.CallsMade.{calls_in, meant}
 use Rattle.checking.specs.Checks.{Answers}
-use Rattle.checking.specs.Runs.{step, steps_of}
+use Rattle.checking.specs.Runs.{step, with_steps}
 use Rattle.checking.specs.declared.book.Book.{Book}
-use Rattle.checking.specs.declared.call.Call.{Call}
-use Rattle.checking.specs.declared.run.Step.{Step}
-use Rattle.checking.proofs.Promising.{steps_more}
+use Rattle.checking.specs.declared.run.CallAndStep.{CallAndStep}
 
--- after these calls a check that was opened so has this book, and these steps were told
-pub record RunsTo (o : Opening) (calls : List Meant) (opened-so : Opening) (book : Book) (steps : List Step) : Type 0 where
-  pub same : opened-so ≡ o
-  pub tally : tally_in book ≡ after_all o at_start calls
-  pub told : steps ≡ steps_of o at_start calls
+-- the first n calls with their steps, the others as they are
+abbrev steps_until : Opening → Tally → List CallAndStep → ℕ → List CallAndStep
+steps_until o t cs n = with_steps o t (take n cs) ++ drop n cs
 
-pub runs_more : (o : Opening) (calls : List Meant) (opened-so : Opening) (before : Book) (steps : List Step) → RunsTo o calls opened-so before steps →
-    (c : Meant) (next : Opening) (book : Book) (given : Result (Unit {0}) Refusal) (stands : Standing) → Answers opened-so before book c given → next ≡ opened-so →
-    stands ≡ standing next (tally_in book) → RunsTo o (calls ++ (c ∷ [])) next book (steps ++ (record { answer = given; standing = stands } ∷ []))
-runs_more o calls opened-so before steps runs c next book given stands answers stays is = record {
-  same = stays ∙ runs.same;
-  tally = tallied ∙ sym (after_more o at_start calls c);
-  told = ap₂ (λ front last. front ++ (last ∷ [])) runs.told told_last ∙ sym (steps_more o at_start calls c);
-}
+-- the tally after the first n calls
+abbrev tally_until : Opening → Tally → List CallAndStep → ℕ → Tally
+tally_until o t cs n = after_all o t (calls_in (take n cs))
+
+-- a check that was opened so has this book after the first n calls, and these are the calls now
+pub record RunsTo (o : Opening) (before : List CallAndStep) (n : ℕ) (opened_as : Opening) (book : Book) (now : List CallAndStep) : Type 0 where
+  pub same : opened_as ≡ o
+  pub tally : tally_in book ≡ tally_until o at_start before n
+  pub told : now ≡ steps_until o at_start before n
+
+-- one call more: the call is as it was, and what the tally and the calls with their steps come to
+module _ (o : Opening) (d : CallAndStep) where
+  next_call : (t : Tally) (cs : List CallAndStep) (n : ℕ) → get_or (steps_until o t cs n) n d ≡ get_or cs n d
+  next_call t [] zero = refl
+  next_call t [] (suc n) = refl
+  next_call t (c ∷ cs) zero = refl
+  next_call t (c ∷ cs) (suc n) = next_call (after o t (meant c.call)) cs n
+
+  tally_more : (t : Tally) (cs : List CallAndStep) (n : ℕ) → n < length cs → tally_until o t cs (suc n) ≡ after o (tally_until o t cs n) (meant (get_or cs n d).call)
+  tally_more t [] n there = absurd (omega arith)
+  tally_more t (c ∷ cs) zero there = refl
+  tally_more t (c ∷ cs) (suc n) there = tally_more (after o t (meant c.call)) cs n (omega arith)
+
+  steps_more : (t : Tally) (cs : List CallAndStep) (n : ℕ) → n < length cs →
+      set (steps_until o t cs n) n (record (get_or cs n d) { step = Some (step o (tally_until o t cs n) (meant (get_or cs n d).call)) }) ≡ steps_until o t cs (suc n)
+  steps_more t [] n there = absurd (omega arith)
+  steps_more t (c ∷ cs) zero there = refl
+  steps_more t (c ∷ cs) (suc n) there = ap (λ rest. record c { step = Some (step o t (meant c.call)) } ∷ rest) (steps_more (after o t (meant c.call)) cs n (omega arith))
+
+-- one call more is made, answered so and standing so
+pub runs_more : (o : Opening) (before : List CallAndStep) (n : ℕ) (opened_as : Opening) (book : Book) (now : List CallAndStep) → RunsTo o before n opened_as book now →
+    (d : CallAndStep) → n < length before → (next : Opening) (later : Book) (given : Result (Unit {0}) Refusal) (stands : Standing) →
+    Answers opened_as book later (meant (get_or now n d).call) given → next ≡ opened_as → stands ≡ standing next (tally_in later) →
+    RunsTo o before (n + 1) next later (set now n (record { call = (get_or now n d).call; step = Some (record { answer = given; standing = stands }) }))
+runs_more o before n opened_as book now runs d there next later given stands answers stays is = rw add-one (record {
+  same = cc;
+  tally = cc (same_call, tally_more o d at_start before n there);
+  told = cc (same_call, steps_more o d at_start before n there);
+})
   where
-    by : (P : Opening → Tally → Type 0) → P opened-so (tally_in before) → P o (after_all o at_start calls)
-    by P h = subst (P o) runs.tally (subst (λ x. P x (tally_in before)) runs.same h)
-
-    tallied : tally_in book ≡ after o (after_all o at_start calls) c
-    tallied = by (λ x t. tally_in book ≡ after x t c) answers.tallied
-
-    told_last : ◌≡◌ {A = Step} (record { answer = given; standing = stands }) (step o (after_all o at_start calls) c)
-    told_last = ap₂ (λ a s. record { answer = a; standing = s }) (by (λ x t. given ≡ answer x t c) answers.answered) (is ∙ ap₂ standing (stays ∙ runs.same) tallied)
-
-pub runs_as : {o : Opening} {calls others : List Meant} {opened-so : Opening} {book : Book} {steps more : List Step} → calls ≡ others → steps ≡ more → RunsTo o calls opened-so book steps → RunsTo o others opened-so book more
-runs_as {o} {calls} {others} {opened-so} {book} ec es runs = subst₂ (λ cs ss. RunsTo o cs opened-so book ss) ec es runs
-
--- one call more of those made
-pub meant_more : (calls : List Call) (i : ℕ) (d : Call) → i < length calls → take (i + 1) (map meant calls) ≡ take i (map meant calls) ++ (meant (get_or calls i d) ∷ [])
-meant_more calls i d h =
-    take_more (map meant calls) i close (subst (λ n. i < n) (sym (length-map calls meant)) h) ∙ ap (λ c. take i (map meant calls) ++ (c ∷ [])) (get_or-map meant calls i d close h)
+    same_call : get_or now n d ≡ get_or before n d
+    same_call = ap (λ cs. get_or cs n d) runs.told ∙ next_call o d at_start before n

@@ -18,9 +18,9 @@ abbrev pub opening_of : {M R : Type 0} → (M → Floor) → (R → Rules) → T
 opening_of floor rules t = record { floor = floor t.map.now; rules = rules t.rules.now; trips = t.trips.now; claim = t.claim; card = t.card }
 
 -- the answer to a call is the tally's, and so is the tally after it
-pub record Answers (o : Opening) (before after-it : Book) (call : Call) (given : Result (Unit {0}) Refusal) : Type 0 where
+pub record Answers (o : Opening) (before later : Book) (call : Call) (given : Result (Unit {0}) Refusal) : Type 0 where
   pub answered : given ≡ answer o (tally_in before) call
-  pub tallied : tally_in after-it ≡ after o (tally_in before) call
+  pub tallied : tally_in later ≡ after o (tally_in before) call
 
 -- the call is refused so, and changes nothing
 abbrev pub Refuses : Opening → Book → Call → Refusal → Type 0

@@ -1,5 +1,5 @@
 -- A check from its opening to its settlement, and what holds of it.
-use Rattle.std.specs.Prelude.{◌≡◌, List, [], ◌∷◌, ◌++◌, vec_items}
+use Rattle.std.specs.Prelude.{◌≡◌, List, [], ◌∷◌, ◌++◌, Some}
 use Rattle.tally.specs.CallAnswers.{answer, after, after_all}
 use Rattle.tally.specs.Calls.{Call}
 use Rattle.tally.specs.Laws.{Holds, Succeeds}
@@ -7,25 +7,27 @@ use Rattle.tally.specs.Openings.{Opening, Openable}
 use Rattle.tally.specs.Plans.{HonestPlan, CallsOf}
 use Rattle.tally.specs.Standings.{settle, standing}
 use Rattle.tally.specs.Tallies.{Tally, at_start}
+use Rattle.checking.specs.CallsMade.{calls_in, meant}
+use Rattle.checking.specs.declared.run.CallAndStep.{CallAndStep}
 use Rattle.checking.specs.declared.run.Run.{Run}
 use Rattle.checking.specs.declared.run.Step.{Step}
 
 abbrev pub step : Opening → Tally → Call → Step
 step o t c = record { answer = answer o t c; standing = standing o (after o t c) }
 
--- each call's answer, and the standing after it, by the tally
-abbrev pub steps_of : Opening → Tally → List Call → List Step
-steps_of o t [] = []
-steps_of o t (c ∷ cs) = step o t c ∷ steps_of o (after o t c) cs
+-- each call with its answer and the standing after it, by the tally
+abbrev pub with_steps : Opening → Tally → List CallAndStep → List CallAndStep
+with_steps o t [] = []
+with_steps o t (c ∷ cs) = record c { step = Some (step o t (meant c.call)) } ∷ with_steps o (after o t (meant c.call)) cs
 
--- every answer, every standing and the settlement with the check's own card are the tally's
-pub record Follows (o : Opening) (calls : List Call) (run : Run) : Type 0 where
+-- the calls stay, every answer and every standing is the tally's, and so is the settlement with the check's own card
+pub record Follows (o : Opening) (before after-run : List CallAndStep) (run : Run) : Type 0 where
   pub starts : run.start ≡ standing o at_start
-  pub goes_on : vec_items run.steps ≡ steps_of o at_start calls
-  pub settles : run.settlement ≡ settle o (after_all o at_start calls) o.card
+  pub goes_on : after-run ≡ with_steps o at_start before
+  pub settles : run.settlement ≡ settle o (after_all o at_start (calls_in before)) o.card
 
 -- What holds of the calls, whatever they are and whether they are taken or refused.
-pub record Promises (o : Opening) (calls : List Call) : Type 0 where
+pub record SoundAndComplete (o : Opening) (calls : List Call) : Type 0 where
   -- At the start and after every call: open branches and closings taken are one more than splits taken; each
   -- conflict-free set below the claim keeps all bans of an open branch; with no open branch no conflict-free set is
   -- below the claim; settling with the check's own card says least exactly when nothing is open and every cart has a

@@ -13,5 +13,5 @@ pub use call::Call;
 pub use check::methods::open;
 pub use check::{Card, Check};
 pub use run::methods::run_calls;
-pub use run::{Run, Step};
+pub use run::{CallAndStep, Run, Step};
 pub use terms::Terms;

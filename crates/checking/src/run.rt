@@ -1,3 +1,4 @@
+use crate::call::Call;
 use tally::{Refusal, Settlement, Standing};
 
 pub mod methods;
@@ -9,11 +10,17 @@ pub struct Step {
     pub standing: Standing,
 }
 
-// A check from its opening to its settlement.
-#[derive(Drop)]
+// A call, and room for the step that comes of it.
+#[derive(Clone, Copy)]
+pub struct CallAndStep<'a> {
+    pub call: Call<'a>,
+    // nothing until the call is made
+    pub step: Option<Step>,
+}
+
+// A check's standing at its start, and its settlement.
+#[derive(Clone, Copy)]
 pub struct Run {
-    // the standing at the start
     pub start: Standing,
-    pub steps: Vec<Step>,
     pub settlement: Settlement,
 }

@@ -1,6 +1,6 @@
 // Whole checks of the small floor's plan, told call by call.
 use crate::tell_each;
-use checking::{Call, Terms, run_calls};
+use checking::{Call, CallAndStep, Step, Terms, run_calls};
 use floor::{Cart, Place};
 use maps::AnyMap;
 use samples::small_trips;
@@ -31,12 +31,18 @@ pub fn tell_checks(rt: &HostRuntime, map: &AnyMap) -> anyhow::Result<()> {
         Call::Close,
     ];
     for claim in [6, 5, 4001] {
-        tell_calls(rt, map, claim, &calls)?;
+        let mut calls = calls.map(|call| CallAndStep { call, step: None });
+        tell_calls(rt, map, claim, &mut calls)?;
     }
     Ok(())
 }
 
-fn tell_calls(rt: &HostRuntime, map: &AnyMap, claim: u16, calls: &[Call]) -> anyhow::Result<()> {
+fn tell_calls(
+    rt: &HostRuntime,
+    map: &AnyMap,
+    claim: u16,
+    calls: &mut [CallAndStep],
+) -> anyhow::Result<()> {
     let mut work = Workspace::new(rt.alloc())?;
     let terms = Terms {
         map,
@@ -45,13 +51,15 @@ fn tell_calls(rt: &HostRuntime, map: &AnyMap, claim: u16, calls: &[Call]) -> any
         claim,
         card: 7,
     };
-    let run = run_calls(rt.alloc(), &mut work, terms, calls)?;
+    let run = run_calls(&mut work, terms, calls);
     print!(rt; "  check of {claim}:")?;
     tell_standing(rt, run.start)?;
-    for (call, step) in calls.iter().zip(&run.steps) {
+    for CallAndStep { call, step } in calls.iter() {
         tell_call(rt, *call)?;
-        tell_answer(rt, step.answer)?;
-        tell_standing(rt, step.standing)?;
+        if let Some(Step { answer, standing }) = *step {
+            tell_answer(rt, answer)?;
+            tell_standing(rt, standing)?;
+        }
     }
     match run.settlement {
         Ok(standing) => {
