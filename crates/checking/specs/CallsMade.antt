@@ -11,5 +11,6 @@ meant (Show cart places) = show cart.0 (numbers places.now)
 meant (Split letter operands) = split letter operands.now
 meant Close = close
 
+-- the calls alone
 abbrev pub calls_in : List CallAndStep → List Meant
 calls_in cs = map (λ c. meant c.call) cs

@@ -12,6 +12,7 @@ use Rattle.checking.specs.declared.run.CallAndStep.{CallAndStep}
 use Rattle.checking.specs.declared.run.Run.{Run}
 use Rattle.checking.specs.declared.run.Step.{Step}
 
+-- what a call comes to: its answer, and the standing after it
 abbrev pub step : Opening → Tally → Call → Step
 step o t c = record { answer = answer o t c; standing = standing o (after o t c) }
 
@@ -21,9 +22,9 @@ with_steps o t [] = []
 with_steps o t (c ∷ cs) = record c { step = Some (step o t (meant c.call)) } ∷ with_steps o (after o t (meant c.call)) cs
 
 -- the calls stay, every answer and every standing is the tally's, and so is the settlement with the check's own card
-pub record Follows (o : Opening) (before after-run : List CallAndStep) (run : Run) : Type 0 where
+pub record Follows (o : Opening) (before later : List CallAndStep) (run : Run) : Type 0 where
   pub starts : run.start ≡ standing o at_start
-  pub goes_on : after-run ≡ with_steps o at_start before
+  pub goes_on : later ≡ with_steps o at_start before
   pub settles : run.settlement ≡ settle o (after_all o at_start (calls_in before)) o.card
 
 -- What holds of the calls, whatever they are and whether they are taken or refused.
