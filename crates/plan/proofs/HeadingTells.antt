@@ -2,7 +2,7 @@
 use Rattle.std.proofs.Common.{◌≡◌, ℕ, ◌+◌, ◌*◌, List, ◌++◌, length, Ok, Err, Result, refl, ap, ◌∙◌, sym, subst}
 use Rattle.floor.proofs.Chains.{ok_no_err, ok_same, err_same}
 use Rattle.mapfile.specs.ListLayout.{Bytes}
-use Rattle.plan.specs.FirstFault.{HeadingFault, HeadingFaultIsFirst}
+use Rattle.plan.specs.FirstFault.{HeadingFault, HeadingFaultsExactly}
 use Rattle.plan.specs.Headings.{Heading, heading}
 use Rattle.plan.specs.Layout.{FewCarts, HeadingReadExactly, heading_text}
 use Rattle.plan.specs.declared.fault.Fault.{Fault}
@@ -27,8 +27,8 @@ module _ (bytes : List ℕ) (low : Bytes bytes) where
           ap heading reads.1 ∙ heading_written h.claim h.trips h.behind.bytes reads.0
           ∙ ap (λ at. Ok (record { claim = h.claim; trips = h.trips; behind = rest at h.behind.bytes })) (sym reads.2)
 
-  pub heading_fault_is_first : HeadingFaultIsFirst bytes
-  heading_fault_is_first fault = (λ is. by bytes (heading bytes) (heading_find bytes low) is, heading_refuses bytes fault.refusal fault.offset)
+  pub heading_faults_exactly : HeadingFaultsExactly bytes
+  heading_faults_exactly fault = (λ is. by bytes (heading bytes) (heading_find bytes low) is, heading_refuses bytes fault.refusal fault.offset)
     where
       by : (bs : List ℕ) (x : Result Heading Fault) → HeadingFinds bs x → x ≡ Err fault → HeadingFault bs fault.refusal fault.offset
       by bs x (whole_heading claim trips few place) is = absurd (ok_no_err is)

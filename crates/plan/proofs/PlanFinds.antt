@@ -11,7 +11,7 @@ use Rattle.motion.specs.declared.trip.Trip.{Trip}
 use Rattle.splits.specs.Rules.{Rules, LawfulRules}
 use Rattle.plan.specs.Commands.{commands}
 use Rattle.plan.specs.Faults.{call_fault}
-use Rattle.plan.specs.FirstFault.{PlanFault, PlanFaultIsFirst, in_heading, barred, at_call}
+use Rattle.plan.specs.FirstFault.{PlanFault, PlanFaultsExactly, in_heading, barred, at_call}
 use Rattle.plan.specs.Headings.{Heading, heading}
 use Rattle.plan.specs.Layout.{FewCarts, PlanReadExactly, Settles, heading_text, trip_text}
 use Rattle.plan.specs.Reading.{blame, made, made_if_open, opening, plan_reading}
@@ -126,8 +126,8 @@ module _ (f : Floor) (floor : Lawful f) (r : Rules) (law : LawfulRules r) where
       ∙ stopped_made check law t (λ call d. (refusal_exactly check sound t (filled check sound t (calls, refl)) call d).1) (offset + (length behind - length rest)) rest e at wrong)
       ∙ ap (λ j. Err (record { refusal = e; offset = j })) place
 
-  pub plan_fault_is_first : (bytes : List ℕ) → Bytes bytes → PlanFaultIsFirst f r bytes
-  plan_fault_is_first bytes low fault = (λ e. by _ (plan_find bytes low) e, refuses bytes fault.refusal fault.offset)
+  pub plan_faults_exactly : (bytes : List ℕ) → Bytes bytes → PlanFaultsExactly f r bytes
+  plan_faults_exactly bytes low fault = (λ e. by _ (plan_find bytes low) e, refuses bytes fault.refusal fault.offset)
     where
       by : (x : Result Standing Fault) → PlanFinds f r bytes x → x ≡ Err fault → PlanFault f r bytes fault.refusal fault.offset
       by (Ok s) (comes_to settles) is = absurd (ok_no_err is)

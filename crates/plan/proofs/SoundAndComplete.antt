@@ -11,7 +11,7 @@ use Rattle.plan.specs.SoundAndComplete.{PlanOf, PlanSoundAndComplete, ProvesBoun
 use Rattle.plan.specs.Reading.{opening}
 use Rattle.plan.proofs.FaultPlaces.{plan_fault_within}
 use Rattle.plan.proofs.Numbers.{standing_small}
-use Rattle.plan.proofs.PlanFinds.{plan_fault_is_first, plan_read_exactly}
+use Rattle.plan.proofs.PlanFinds.{plan_faults_exactly, plan_read_exactly}
 use Rattle.tally.specs.CallAnswers.{after_all}
 use Rattle.tally.specs.Laws.{Holds}
 use Rattle.tally.specs.Openings.{Opening, opened}
@@ -77,8 +77,8 @@ module _ (f : Floor) (r : Rules) (floor : Lawful f) (rules : LawfulRules r) (byt
   pub plan_sound_and_complete : PlanSoundAndComplete f r bytes
   plan_sound_and_complete = record {
     read_exactly = plan_read_exactly f floor r rules bytes low;
-    fault_is_first = plan_fault_is_first f floor r rules bytes low;
-    fault_is_in_file = λ fault is. plan_fault_within f r bytes fault.refusal fault.offset ((plan_fault_is_first f floor r rules bytes low fault).0 is);
+    faults_exactly = plan_faults_exactly f floor r rules bytes low;
+    fault_is_in_file = λ fault is. plan_fault_within f r bytes fault.refusal fault.offset ((plan_faults_exactly f floor r rules bytes low fault).0 is);
     least_is_least = λ s n is least. proves_least s n ((plan_read_exactly f floor r rules bytes low s).0 is) least;
     none_open_is_bound = λ s is none. proves_bound s ((plan_read_exactly f floor r rules bytes low s).0 is) none;
     number_is_small = λ s is. number_small s ((plan_read_exactly f floor r rules bytes low s).0 is);

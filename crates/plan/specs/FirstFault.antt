@@ -36,8 +36,8 @@ pub data HeadingFault (bytes : List ℕ) : PlanRefusal → ℕ → Type 0 where
       → bytes ≡ (opening_text claim carts ++ flat_map trip_text front) ++ rest → NoCommand 67 4 rest e k → HeadingFault bytes (File e) (4 + 5 * length front + k)
 
 -- a heading is refused for a fault exactly when that is its first one
-abbrev pub HeadingFaultIsFirst : List ℕ → Type 0
-HeadingFaultIsFirst bytes = (fault : Fault) → (heading bytes ≡ Err fault) ↔ HeadingFault bytes fault.refusal fault.offset
+abbrev pub HeadingFaultsExactly : List ℕ → Type 0
+HeadingFaultsExactly bytes = (fault : Fault) → (heading bytes ≡ Err fault) ↔ HeadingFault bytes fault.refusal fault.offset
 
 -- ---- behind the heading
 
@@ -78,5 +78,5 @@ pub data PlanFault (f : Floor) (r : Rules) (bytes : List ℕ) : PlanRefusal → 
       → PlanFault f r bytes e (length bytes - length rest + k)
 
 -- a plan is refused for a fault exactly when that is its first one
-abbrev pub PlanFaultIsFirst : Floor → Rules → List ℕ → Type 0
-PlanFaultIsFirst f r bytes = (fault : Fault) → (plan_reading f r bytes ≡ Err fault) ↔ PlanFault f r bytes fault.refusal fault.offset
+abbrev pub PlanFaultsExactly : Floor → Rules → List ℕ → Type 0
+PlanFaultsExactly f r bytes = (fault : Fault) → (plan_reading f r bytes ≡ Err fault) ↔ PlanFault f r bytes fault.refusal fault.offset

@@ -3,7 +3,7 @@ use Rattle.std.specs.Prelude.{◌≡◌, ℕ, ◌≤◌, List, length, Ok, Err}
 use Rattle.floor.specs.Floor.{Floor}
 use Rattle.motion.specs.declared.trip.Trip.{Trip}
 use Rattle.splits.specs.Rules.{Rules}
-use Rattle.plan.specs.FirstFault.{PlanFaultIsFirst}
+use Rattle.plan.specs.FirstFault.{PlanFaultsExactly}
 use Rattle.plan.specs.Layout.{PlanReadExactly, PlanText}
 use Rattle.plan.specs.Reading.{opening, plan_reading}
 use Rattle.plan.specs.declared.fault.Fault.{Fault}
@@ -41,8 +41,8 @@ pub record PlanSoundAndComplete (f : Floor) (r : Rules) (bytes : List ℕ) : Typ
   -- It comes to a standing exactly when it is laid out as a plan whose calls are all taken, and then it is that run's
   -- settlement.
   pub read_exactly : PlanReadExactly f r bytes
-  -- Else its fault is the first, and stands where it says.
-  pub fault_is_first : PlanFaultIsFirst f r bytes
+  -- Else it is refused for a fault exactly when that is its first one.
+  pub faults_exactly : PlanFaultsExactly f r bytes
   -- The offset of a fault is that of a byte of the file, or its length.
   pub fault_is_in_file : (fault : Fault) → plan_reading f r bytes ≡ Err fault → fault.offset ≤ length bytes
   -- A plan that settles as `least n` shows a least set, and the least sum is n.

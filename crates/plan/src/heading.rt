@@ -1,7 +1,7 @@
 ghost use Rattle.std.specs.Prelude.{◌≡◌, ◌≤◌};
 ghost use Rattle.plan.specs.Commands.{commands};
 ghost use Rattle.plan.specs.Cursors.{heading_of, rest_of, trips_taken};
-ghost use Rattle.plan.specs.FirstFault.{HeadingFaultIsFirst};
+ghost use Rattle.plan.specs.FirstFault.{HeadingFaultsExactly};
 ghost use Rattle.plan.specs.Headings.{heading, trips_at};
 ghost use Rattle.plan.specs.Layout.{HeadingReadExactly};
 ghost use Rattle.std.specs.Result.{result_map_both};
@@ -40,7 +40,7 @@ impl<'a> Heading<'a> {
 pub fn read_heading(bytes: &[u8]) -> Result<Heading<'_>, Fault>
     ensures reads { heading bytes.now ≡ result_map_both heading_of (λ f. f) result }
     ensures exactly { HeadingReadExactly bytes.now }
-    ensures first { HeadingFaultIsFirst bytes.now }
+    ensures faults { HeadingFaultsExactly bytes.now }
 {
     let ([high, low, carts], behind) = Cursor { bytes, at: 0 }.operands::<3>(b'O')?;
     if !(1..=16).contains(&carts) {

@@ -8,19 +8,19 @@ use Rattle.maps.specs.AnyMaps.{Hall, listed, gridded, hall_floor}
 use Rattle.maps.specs.GridsLemmas.{grid_lawful}
 use Rattle.mapfile.specs.ListLayout.{Bytes}
 use Rattle.mapfile.proofs.FaultPlaces.{map_fault_within}
-use Rattle.mapfile.proofs.GridLayout.{grid_read_exactly, grid_fault_is_first}
-use Rattle.mapfile.proofs.ListLayout.{list_read_exactly, list_fault_is_first}
-use Rattle.mapfile.proofs.MapFiles.{grid_exactly, grid_first, list_exactly, list_first}
-use Rattle.mapfile.specs.MapFiles.{is_list, MapFaultIsFirst, MapReadExactly, MapText, map_reading}
+use Rattle.mapfile.proofs.GridLayout.{grid_read_exactly, grid_faults_exactly}
+use Rattle.mapfile.proofs.ListLayout.{list_read_exactly, list_faults_exactly}
+use Rattle.mapfile.proofs.MapFiles.{grid_exactly, grid_faults, list_exactly, list_faults}
+use Rattle.mapfile.specs.MapFiles.{is_list, MapFaultsExactly, MapReadExactly, MapText, map_reading}
 use Rattle.mapfile.specs.declared.fault.Fault.{Fault as MapFault}
 use Rattle.plan.specs.SoundAndComplete.{PlanSoundAndComplete}
 use Rattle.plan.specs.Reading.{plan_reading}
 use Rattle.plan.specs.declared.fault.Fault.{Fault as InPlan}
 use Rattle.plan.proofs.FaultPlaces.{plan_fault_within}
-use Rattle.plan.proofs.PlanFinds.{plan_fault_is_first, plan_read_exactly}
+use Rattle.plan.proofs.PlanFinds.{plan_faults_exactly, plan_read_exactly}
 use Rattle.plan.proofs.SoundAndComplete.{plan_sound_and_complete}
 use Rattle.report.specs.Faults.{file_of, offset_of}
-use Rattle.report.specs.Files.{FilesFault, FilesFaultIsFirst, FilesReadExactly, FilesSettle, files_reading, in_map, in_plan, of_map, of_plan}
+use Rattle.report.specs.Files.{FilesFault, FilesFaultsExactly, FilesReadExactly, FilesSettle, files_reading, in_map, in_plan, of_map, of_plan}
 use Rattle.report.specs.SoundAndComplete.{FilesSoundAndComplete, HallOf}
 use Rattle.report.specs.declared.fault.Fault.{Fault}
 use Rattle.splits.specs.BesideRuleLemmas.{beside_lawful}
@@ -42,9 +42,9 @@ map_read_exactly : (bytes : List ℕ) → Bytes bytes → MapReadExactly bytes
 map_read_exactly bytes low =
     ⊎_elim (λ list. list_exactly bytes list (list_read_exactly bytes low)) (λ grid. grid_exactly bytes grid (grid_read_exactly bytes)) (cases_Bool (is_list bytes))
 
-map_fault_is_first : (bytes : List ℕ) → Bytes bytes → MapFaultIsFirst bytes
-map_fault_is_first bytes low =
-    ⊎_elim (λ list. list_first bytes list (list_fault_is_first bytes low)) (λ grid. grid_first bytes grid (grid_fault_is_first bytes)) (cases_Bool (is_list bytes))
+map_faults_exactly : (bytes : List ℕ) → Bytes bytes → MapFaultsExactly bytes
+map_faults_exactly bytes low =
+    ⊎_elim (λ list. list_faults bytes list (list_faults_exactly bytes low)) (λ grid. grid_faults bytes grid (grid_faults_exactly bytes)) (cases_Bool (is_list bytes))
 
 module _ (map plan : List ℕ) (map_low : Bytes map) (low : Bytes plan) where
   map_exactly : MapReadExactly map
@@ -80,17 +80,21 @@ module _ (map plan : List ℕ) (map_low : Bytes map) (low : Bytes plan) where
       settles : Stands s → FilesSettle map plan s
       settles st = record { hall = st.hall; map_text = st.text; settles = (plan_read_exactly (hall_floor st.hall) (hall_lawful st.hall map st.text) own own_lawful plan low s).0 st.plan_read }
 
-  files_fault_is_first : FilesFaultIsFirst map plan
+  files_faults_exactly : FilesFaultsExactly map plan
   unfolding files_reading
-  files_fault_is_first f is = by (map_reading map) refl is
+  files_faults_exactly f = (λ is. by (map_reading map) refl is, refused f)
     where
       in_the_plan : (hall : Hall) → MapText hall map → (x : Result Standing InPlan) → plan_reading (hall_floor hall) own plan ≡ x → of_plan x ≡ Err f → FilesFault map plan f
       in_the_plan hall text (Ok s) read e = absurd (ok_no_err e)
-      in_the_plan hall text (Err g) read e = subst (FilesFault map plan) (err_same e) (in_plan hall text ((plan_fault_is_first (hall_floor hall) (hall_lawful hall map text) own own_lawful plan low g).0 read))
+      in_the_plan hall text (Err g) read e = subst (FilesFault map plan) (err_same e) (in_plan hall text ((plan_faults_exactly (hall_floor hall) (hall_lawful hall map text) own own_lawful plan low g).0 read))
 
       by : (m : Result Hall MapFault) → map_reading map ≡ m → (of_map m >>= λ h. of_plan (plan_reading (hall_floor h) own plan)) ≡ Err f → FilesFault map plan f
       by (Ok hall) read e = in_the_plan hall ((map_exactly hall).0 read) _ refl e
-      by (Err g) read e = subst (FilesFault map plan) (err_same e) (in_map (map_fault_is_first map map_low g read))
+      by (Err g) read e = subst (FilesFault map plan) (err_same e) (in_map ((map_faults_exactly map map_low g).0 read))
+
+      refused : (g : Fault) → FilesFault map plan g → files_reading map plan ≡ Err g
+      refused f (in_map {f = g} wrong) = ap (λ m. of_map m >>= λ h. of_plan (plan_reading (hall_floor h) own plan)) ((map_faults_exactly map map_low g).1 wrong)
+      refused f (in_plan {f = g} hall text wrong) = on_hall hall text ∙ ap of_plan ((plan_faults_exactly (hall_floor hall) (hall_lawful hall map text) own own_lawful plan low g).1 wrong)
 
   -- a first fault stands in its file or at its end
   fault_within : (f : Fault) → FilesFault map plan f → offset_of f ≤ length (file_of f map plan)
@@ -100,8 +104,8 @@ module _ (map plan : List ℕ) (map_low : Bytes map) (low : Bytes plan) where
   pub files_sound_and_complete : FilesSoundAndComplete map plan
   files_sound_and_complete = record {
     read_exactly = files_read_exactly;
-    fault_is_first = files_fault_is_first;
-    fault_is_in_file = λ f is. fault_within f (files_fault_is_first f is);
+    faults_exactly = files_faults_exactly;
+    fault_is_in_file = λ f is. fault_within f ((files_faults_exactly f).0 is);
     least_is_least = λ s n is least. let st = stands s is in (hall_of st, (kept st.hall st.text).least_is_least s n st.plan_read least);
     none_open_is_bound = λ s is none. let st = stands s is in (hall_of st, (kept st.hall st.text).none_open_is_bound s st.plan_read none);
     number_is_small = λ s is. let st = stands s is in (kept st.hall st.text).number_is_small s st.plan_read;

@@ -46,6 +46,6 @@ pub data FilesFault (map plan : List ℕ) : Fault → Type 0 where
   in_map : {f : MapFault} → FaultAs (is_list map) map f.refusal f.offset → FilesFault map plan (Map f)
   in_plan : {f : InPlan} (hall : Hall) → MapText hall map → PlanFault (hall_floor hall) own plan f.refusal f.offset → FilesFault map plan (Plan f)
 
--- a fault is the first one, and stands where it says
-abbrev pub FilesFaultIsFirst : List ℕ → List ℕ → Type 0
-FilesFaultIsFirst map plan = (f : Fault) → files_reading map plan ≡ Err f → FilesFault map plan f
+-- two files are refused for a fault exactly when that is the first one
+abbrev pub FilesFaultsExactly : List ℕ → List ℕ → Type 0
+FilesFaultsExactly map plan = (f : Fault) → (files_reading map plan ≡ Err f) ↔ FilesFault map plan f

@@ -8,7 +8,7 @@ use Rattle.plan.specs.SoundAndComplete.{ProvesBound, ProvesLeast}
 use Rattle.tally.specs.Standings.{number_in}
 use Rattle.plan.specs.Reading.{opening}
 use Rattle.report.specs.Faults.{file_of, offset_of}
-use Rattle.report.specs.Files.{FilesFaultIsFirst, FilesReadExactly, files_reading}
+use Rattle.report.specs.Files.{FilesFaultsExactly, FilesReadExactly, files_reading}
 use Rattle.report.specs.declared.fault.Fault.{Fault}
 use Rattle.splits.specs.Own.{own}
 use Rattle.tally.specs.Calls.{Call}
@@ -26,8 +26,8 @@ pub record FilesSoundAndComplete (map plan : List ℕ) : Type 0 where
   -- They come to a standing exactly when the map's bytes are the text of a hall, and the plan's that of a plan whose
   -- calls are all taken on that hall's floor; and then it is that run's settlement.
   pub read_exactly : FilesReadExactly map plan
-  -- Else the fault is the first, and stands where it says.
-  pub fault_is_first : FilesFaultIsFirst map plan
+  -- Else they are refused for a fault exactly when that is the first one.
+  pub faults_exactly : FilesFaultsExactly map plan
   -- The offset of a fault is that of a byte of its file, or the file's length.
   pub fault_is_in_file : (f : Fault) → files_reading map plan ≡ Err f → offset_of f ≤ length (file_of f map plan)
   -- `least n`: on the hall's floor the routes that the plan shows are a conflict-free set for its carts that sums to n,
