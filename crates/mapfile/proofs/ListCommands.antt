@@ -6,7 +6,8 @@ use Rattle.maps.specs.Networks.{Network, Proper, joining, with_connection}
 use Rattle.maps.specs.declared.connection.Connection.{Connection}
 use Rattle.maps.specs.JoiningLemmas.{joining_is_proper}
 use Rattle.maps.specs.NetworksLemmas.{proper_front, proper_prefix}
-use Rattle.maps.specs.RefusingLemmas.{joined_from_ok, refused_exactly}
+use Rattle.maps.proofs.Joining.{joining_tells}
+use Rattle.maps.specs.PassingLemmas.{passed_from_ok}
 use Rattle.maps.specs.declared.refusal.MapRefusal.{MapRefusal}
 use Rattle.maps.specs.declared.refusal.MapRefusal.TheVariants.{Letter, CutShort}
 use Rattle.mapfile.specs.Faults.{fault}
@@ -64,7 +65,7 @@ module _ (n : Network) (at l a b c d : ℕ) (bytes : List ℕ) where
   joined_after : (j : Network) (r : Result Network Fault) → l ≡ 87 → blame at (joining n (connection a b c d)) ≡ Ok j → connecting j (at + 5) bytes ≡ r → After r
   joined_after j r letter blamed goes =
       let taken = blame_ok at (joining n (connection a b c d)) j blamed in
-      let is = (joined_from_ok n (connection a b c d) j taken).1 in
+      let is = (passed_from_ok n (connection a b c d) j taken).1 in
       (letter, subst (λ j. joining n (connection a b c d) ≡ Ok j) is taken, subst (λ j. connecting j (at + 5) bytes ≡ r) is goes)
 
   command_ok : (m : Network) → connecting n at (l ∷ a ∷ b ∷ c ∷ d ∷ bytes) ≡ Ok m → After (Ok m)
@@ -180,7 +181,7 @@ command_err n at l a b c d bytes f proper h =
     refused : l ≡ 87 → blame at (joining n new) ≡ Err f → Stops n at (l ∷ a ∷ b ∷ c ∷ d ∷ bytes) f
     refused letter k =
         let why = blame_err at (joining n new) f k in
-        subst (λ l. Stops n at (l ∷ a ∷ b ∷ c ∷ d ∷ bytes) f) (sym letter) (stops_at_letter n at _ why.0 f proper why.2 (connection_refused ((refused_exactly n new why.0).0 why.1)))
+        subst (λ l. Stops n at (l ∷ a ∷ b ∷ c ∷ d ∷ bytes) f) (sym letter) (stops_at_letter n at _ why.0 f proper why.2 (connection_refused ((joining_tells.refused n new why.0).0 why.1)))
 
 pub connecting_err : (n : Network) (at : ℕ) (bytes : List ℕ) (f : Fault) → Bytes bytes → Proper n → connecting n at bytes ≡ Err f → Stops n at bytes f
 connecting_err n at [] f low proper h = absurd (ok_no_err h)
@@ -213,4 +214,4 @@ pub continuing_stops : (n : Network) (at : ℕ) (bytes : List ℕ) (e : MapRefus
 continuing_stops n at bytes e k (no_connection {letter = l} {bytes = behind} other) = rw add-zero (other_letter_stops n at l behind other)
 continuing_stops n at bytes e k (places_cut {bytes = behind} short) = short_stops n at behind short
 continuing_stops n at bytes e k (connection_refused {a = a} {b = b} {c = c} {d = d} {bytes = behind} why) =
-    rw add-zero (ap (λ r. blame at r >>= λ j. connecting j (at + 5) behind) ((refused_exactly n (connection a b c d) e).1 why))
+    rw add-zero (ap (λ r. blame at r >>= λ j. connecting j (at + 5) behind) ((joining_tells.refused n (connection a b c d) e).1 why))

@@ -1,5 +1,6 @@
 pub mod Members
 pub mod Founding
+pub mod Joining
 pub mod Gridding
 pub mod Sides
 pub mod GridRows

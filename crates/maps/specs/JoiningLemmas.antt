@@ -1,14 +1,16 @@
--- The tests of a new connection refuse exactly what is not proper, each for its own reason.
-use Rattle.std.specs.Prelude.{◌≡◌, ℕ, ◌<◌, ◌≤◌, ◌⊎◌, List, [], ◌∷◌, ◌++◌, length, Ok, refl}
+-- The tests of a new connection refuse exactly what is not proper.
+use Rattle.std.specs.Prelude.{◌≡◌, ℕ, ◌<◌, ◌⊎◌, List, [], ◌∷◌, ◌++◌, length, Ok, refl}
 use Rattle.std.proofs.Common.{inl, inr, ⊎_elim, sym, arith}
 use Rattle.std.proofs.lemmas.List.{length_push}
+use Rattle.std.proofs.lemmas.Bool.Decides.{not_from_Decides}
+use Rattle.floor.proofs.Deciding.{false_from_decides}
 use Rattle.floor.specs.Floor.{Joined, Lawful}
-use Rattle.maps.specs.Networks.{Network, Links, Linked, Proper, JoiningIsProper, JoiningTells, partners, network_floor, with_connection, joining}
+use Rattle.maps.specs.Networks.{Network, Links, Linked, Proper, JoiningIsProper, partners, network_floor, with_connection, joining}
 use Rattle.maps.specs.declared.connection.Connection.{Connection}
 use Rattle.maps.specs.NetworksLemmas.{linked_from_joined, joined_from_linked, joined_back}
 use Rattle.maps.specs.OnceLemmas.{once_push, once_new}
-use Rattle.maps.specs.PartnersLemmas.{cases_end, leads_from_links, linked_from_has, has_from_linked, linked_back, linked_behind, linked_cases, partners_push, partners_past}
-use Rattle.maps.specs.RefusingLemmas.{Joinable, joining_ok, joined_from_ok, refused_exactly}
+use Rattle.maps.specs.PartnersLemmas.{cases_end, leads_from_links, decides_partner, linked_from_has, has_from_linked, linked_back, linked_behind, linked_cases, partners_push, partners_past}
+use Rattle.maps.specs.PassingLemmas.{joining_ok, passed_from_ok}
 
 -- what a new connection asks of its end p, with q at the other end
 pub record Fit (n : Network) (p q : ℕ) : Type 0 where
@@ -31,25 +33,19 @@ module _ (n : Network) (c : Connection) where
   abbrev other : ℕ
   other = c.second.0
 
-  fit_ends : Joinable n c → Fit n one other × Fit n other one
-  fit_ends may =
-      let off_first : n.places ≤ one → ⊥ = λ off. may.on_floor (inl off) in
-      let off_second : n.places ≤ other → ⊥ = λ off. may.on_floor (inr off) in
-      let full_first : 8 ≤ length (partners one cs) → ⊥ = λ full. may.room (inl full) in
-      let full_second : 8 ≤ length (partners other cs) → ⊥ = λ full. may.room (inr full) in (
-        record { on = omega arith; apart = λ e. may.new (inl e); new = λ l. may.new (inr l); room = omega arith },
-        record { on = omega arith; apart = λ e. may.new (inl (sym e)); new = λ l. may.new (inr (linked_back other one cs l)); room = omega arith },
-      )
-
   pub fit_first : joining n c ≡ Ok (with_connection n c) → Fit n one other
-  fit_first h = (fit_ends (joined_from_ok n c _ h).0).0
+  fit_first h =
+      let tests = (passed_from_ok n c _ h).0 in
+      record { on = tests.first_on; apart = tests.apart; new = not_from_Decides _ (decides_partner one other cs) tests.new; room = tests.first_room }
 
   pub fit_second : joining n c ≡ Ok (with_connection n c) → Fit n other one
-  fit_second h = (fit_ends (joined_from_ok n c _ h).0).1
+  fit_second h =
+      let tests = (passed_from_ok n c _ h).0 in
+      record { on = tests.second_on; apart = λ e. tests.apart (sym e); new = λ l. (fit_first h).new (linked_back other one cs l); room = tests.second_room }
 
   pub fits_from_joining : joining n c ≡ Ok (with_connection n c) → Fits n c
   fits_from_joining h = record {
-    few = let few = (joined_from_ok n c _ h).0.few in omega arith;
+    few = (passed_from_ok n c _ h).0.few;
     ends = λ p q. ⊎_elim (λ l. rw (l.0, l.1) at (fit_first h)) (λ l. rw (l.0, l.1) at (fit_second h));
   }
 
@@ -58,10 +54,13 @@ module _ (n : Network) (c : Connection) where
       let first = fits.ends one other (inl (refl, refl)) in let second = fits.ends other one (inr (refl, refl)) in
       joining_ok n c
       (record {
-        few = λ full. let few = fits.few in omega arith;
-        on_floor = ⊎_elim (λ off. let on = first.on in omega arith) (λ off. let on = second.on in omega arith);
-        new = ⊎_elim first.apart first.new;
-        room = ⊎_elim (λ full. let room = first.room in omega arith) (λ full. let room = second.room in omega arith);
+        few = fits.few;
+        first_on = first.on;
+        second_on = second.on;
+        apart = first.apart;
+        new = false_from_decides _ (decides_partner one other cs) first.new;
+        first_room = first.room;
+        second_room = second.room;
       })
 
   pub proper_from_fits : Proper n → Fits n c → Proper (with_connection n c)
@@ -114,6 +113,3 @@ joining_is_proper n c proper = (
   λ h. proper_from_fits n c proper (fits_from_joining n c h),
   λ more. joining_from_fits n c (fits_from_proper n c more),
 )
-
-pub joining_tells : JoiningTells
-joining_tells = record { taken = joining_is_proper; refused = refused_exactly }

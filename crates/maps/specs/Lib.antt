@@ -18,5 +18,5 @@ pub mod ListMapsLemmas
 pub mod JoiningLemmas
 pub mod NetworksLemmas
 pub mod PartnersLemmas
-pub mod RefusingLemmas
+pub mod PassingLemmas
 pub mod TablesLemmas

@@ -33,7 +33,7 @@ impl ListMap {
     }
 
     // One connection more, or why not.
-    #[tactic(auto, using(crate::specs::JoiningLemmas::joining_tells, crate::specs::ListMapsLemmas::ends_on_floor, crate::specs::ListMapsLemmas::few_more, crate::specs::ListMapsLemmas::near_room, crate::specs::ListMapsLemmas::far_room))]
+    #[tactic(auto, using(crate::proofs::Joining::joining_tells, crate::specs::ListMapsLemmas::ends_on_floor, crate::specs::ListMapsLemmas::few_more, crate::specs::ListMapsLemmas::near_room, crate::specs::ListMapsLemmas::far_room))]
     pub fn join(&mut self, c: Connection) -> Result<(), MapRefusal>
         ensures change { Changed (joining (network_of self.old) c) self.old self.new result }
         ensures tells { JoiningTells }
