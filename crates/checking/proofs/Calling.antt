@@ -2,7 +2,8 @@
 use Rattle.std.proofs.Common.{◌≡◌, ℕ, ◌<◌, ◌≤◌, Bool, true, false, cond, ◌||◌, leb, List, [], ◌∷◌, length, slice_index_or, take, drop, Some, None, Ok, Err, Option, Result, Bor, sym, refl, ap, ◌∙◌, ap₂, arith}
 use Rattle.floor.specs.Tests.{some}
 use Rattle.floor.specs.declared.Place.{Place}
-use Rattle.motion.specs.Listed.{in_conflict, numbers, route_check}
+use Rattle.floor.specs.Numbers.{numbers}
+use Rattle.motion.specs.Listed.{in_conflict, route_check}
 use Rattle.motion.specs.Routes.{nowhere, start_of, target_of}
 use Rattle.motion.proofs.Listing.{route_test_tells}
 use Rattle.arrayvec.specs.ArrayVec.{array_vec_len}

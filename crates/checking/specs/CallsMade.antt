@@ -1,6 +1,6 @@
 -- The calls of a check as they are made.
 use Rattle.std.specs.Prelude.{List, map}
-use Rattle.motion.specs.Listed.{numbers}
+use Rattle.floor.specs.Numbers.{numbers}
 use Rattle.tally.specs.Calls.{Call as Meant, show, split, close}
 use Rattle.checking.specs.declared.call.Call.{Call}
 use Rattle.checking.specs.declared.call.Call.TheVariants.{Show, Split, Close}

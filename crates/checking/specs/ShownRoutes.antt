@@ -1,6 +1,6 @@
 -- The routes shown, from how they are kept.
 use Rattle.std.specs.Prelude.{List, map}
-use Rattle.motion.specs.Listed.{numbers}
+use Rattle.floor.specs.Numbers.{numbers}
 use Rattle.tally.specs.Tallies.{Shown}
 use Rattle.checking.specs.declared.routes.Kept.{Kept}
 use Rattle.checking.specs.declared.routes.Routes.{Routes}

@@ -26,6 +26,11 @@ module _ {A B E : Type 0} where
   pub bind_at : (x : Result A E) (next : A → Result B E) (a : A) → x ≡ Ok a → (x >>= next) ≡ next a
   bind_at x next a h = ap (λ r. r >>= next) h
 
+-- a test by itself
+pub not_refused : {E : Type 0} (b : Bool) (e : E) → Ok tt ≡ refuse (not b) e → b ≡ true
+not_refused true e h = refl
+not_refused false e h = cc
+
 -- a test in front of what follows
 module _ {A E : Type 0} where
   pub refused : (b : Bool) (e : E) (next : Result A E) → b ≡ true → (refuse b e >> next) ≡ Err e

@@ -1,9 +1,9 @@
 -- Tests that decide what they are made to tell, put together from the tests of their parts.
-use Rattle.std.proofs.Common.{◌≡◌, ℕ, ◌+◌, ◌<◌, ◌≤◌, Bool, true, false, not, ◌&&◌, ◌||◌, leb, List, [], ◌∷◌, ◌++◌, length, Decides, All, sym, refl, ap, ◌∙◌, add-one, arith, zero, suc}
+use Rattle.std.proofs.Common.{◌≡◌, ℕ, ◌+◌, ◌<◌, ◌≤◌, Bool, true, false, not, ◌&&◌, ◌||◌, leb, List, [], ◌∷◌, ◌++◌, length, Decides, All, sym, refl, ap, ◌∙◌, arith, zero, suc}
 use Rattle.floor.specs.Tests.{every, every_below, some, some_below}
 use Rattle.std.specs.List.{HoldsAt, range_with_len}
 use Rattle.std.proofs.lemmas.List.Folds.{list_all-append, list_any-append}
-use Rattle.std.proofs.lemmas.Bool.{and_from, both_ways, leb-true, le-leb, not-true, or_from, true≢false}
+use Rattle.std.proofs.lemmas.Bool.{leb-true, le-leb, not-true, true≢false}
 use Rattle.std.proofs.lemmas.Bool.Decides.{not_from_Decides, Decides-not, Decides-and, Decides-like, Decides-by_and, Decides-by_or, Decides-below_and, Decides-below_or}
 
 pub false_from_decides : {P : Type 0} (x : Bool) → Decides x P → (P → ⊥) → x ≡ false

@@ -2,3 +2,4 @@ pub mod Floor
 pub mod Checks
 pub mod Tests
 pub mod Joins
+pub mod Numbers

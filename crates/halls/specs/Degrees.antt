@@ -1,8 +1,8 @@
 -- How many neighbours the places of a floor have in all.
-use Rattle.std.specs.Prelude.{ℕ, zero, suc, ◌+◌, length}
+use Rattle.std.specs.Prelude.{ℕ, length}
 use Rattle.floor.specs.Floor.{Floor}
+use Rattle.motion.specs.Routes.{total}
 
--- those of the first n places
-abbrev pub degrees : Floor → ℕ → ℕ
-degrees f zero = 0
-degrees f (suc n) = degrees f n + length (f.next n)
+-- each connection counts at both of its ends
+abbrev pub degrees : Floor → ℕ
+degrees f = total f.count (λ p. length (f.next p))

@@ -8,7 +8,7 @@ use maps::GridMap;
 // How many connections a floor has: each is counted at both of its ends. Places have numbers below the floor's count,
 // so nothing is lost by `as`.
 pub fn connections<M: FloorMap>(map: &M) -> usize
-    ensures { result ≡ degrees (M.FloorMap.floor map.now) (M.FloorMap.floor map.now).count / 2 }
+    ensures { result ≡ degrees (M.FloorMap.floor map.now) / 2 }
 {
     let ends: usize = (0..map.places()).map(|p| map.degree(Place(p as u16))).sum();
     ends / 2

@@ -5,7 +5,8 @@ use Rattle.floor.specs.Tests.{every_below, some_below}
 use Rattle.floor.specs.declared.Place.{Place}
 use Rattle.std.proofs.lemmas.List.{length-map}
 use Rattle.std.proofs.lemmas.Bool.Decides.{nat_tests}
-use Rattle.motion.specs.Listed.{clash, goes_on, in_conflict, is_route, may_step, numbers, place_at, steps}
+use Rattle.floor.specs.Numbers.{numbers}
+use Rattle.motion.specs.Listed.{clash, goes_on, in_conflict, is_route, may_step, place_at, steps}
 
 abbrev pub number_at : List Place → ℕ → ℕ
 number_at xs i = (get_or xs i (record { 0 = 0 })).0

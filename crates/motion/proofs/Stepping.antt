@@ -1,9 +1,7 @@
 -- A step, and the routes that are made of steps and then stay.
-use Rattle.std.proofs.Common.{◌≡◌, ℕ, suc, ◌-◌, ◌<◌, ◌≤◌, true, false, ◌⊎◌, get_or, Some, None, Decides, sym, ◌∙◌, inl, inr, ⊎_elim, arith}
+use Rattle.std.proofs.Common.{◌≡◌, ℕ, suc, ◌-◌, ◌<◌, ◌≤◌, ◌⊎◌, Decides, sym, ◌∙◌, inl, inr, ⊎_elim, arith}
 use Rattle.floor.specs.Floor.{Floor}
-use Rattle.floor.proofs.Deciding.{false_from_decides}
-use Rattle.floor.proofs.Neighbours.{decides_joined, joined_found, joined_missed}
-use Rattle.std.specs.List.{slice_get}
+use Rattle.floor.proofs.Neighbours.{decides_joined}
 use Rattle.std.proofs.lemmas.Bool.{cases_lt}
 use Rattle.std.proofs.lemmas.Bool.Decides.{Decides-eqb, Decides-or}
 use Rattle.motion.specs.Listed.{may_step}
@@ -11,14 +9,6 @@ use Rattle.motion.specs.Routes.{Home, Route, Step}
 
 pub decides_step : (f : Floor) (p q : ℕ) → Decides (may_step f p q) (Step f p q)
 decides_step f p q = Decides-or _ _ (Decides-eqb q p) (decides_joined f p q)
-
--- as a loop over the neighbours finds it: the way to q is neighbour number i, or none of those before the end
-module _ (f : Floor) (p q i : ℕ) where
-  pub step_found : (n : ℕ) → Some n ≡ slice_get (f.next p) i → n ≡ q → may_step f p q ≡ true
-  step_found n answer is = (decides_step f p q).1 (inr (joined_found f p q i n answer is))
-
-  pub step_missed : (q ≡ p → ⊥) → ((k : ℕ) → k < i → get_or (f.next p) k 0 ≡ q → ⊥) → None ≡ slice_get (f.next p) i → may_step f p q ≡ false
-  step_missed moves none answer = false_from_decides _ (decides_step f p q) (⊎_elim moves (joined_missed f p q i none answer))
 
 module _ (f : Floor) (r : ℕ → ℕ) (n : ℕ) where
   -- the step after tick t is one that the floor has, and no wait if it is the last of n

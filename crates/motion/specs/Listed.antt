@@ -1,15 +1,12 @@
 -- A list of places as the route that follows it and then stays at its last place for ever.
-use Rattle.std.specs.Prelude.{◌≡◌, ℕ, suc, ◌-◌, ◌<◌, ◌≤◌, min, max, Bool, not, ◌&&◌, ◌||◌, ltb, ◌↔◌, List, map, length, Ok, Err, Decides, All, Result, ◌==◌, nat_eq, nat_le, nat_lt, slice_index}
+use Rattle.std.specs.Prelude.{◌≡◌, ℕ, suc, ◌-◌, ◌<◌, ◌≤◌, min, max, Bool, not, ◌&&◌, ◌||◌, ltb, ◌↔◌, List, length, Ok, Err, Decides, All, Result, ◌==◌, nat_le, nat_lt, slice_index}
 use Rattle.floor.specs.Checks.{refuse, ◌>>◌}
 use Rattle.floor.specs.Floor.{Floor}
-use Rattle.floor.specs.Tests.{every, every_below, some, some_below}
-use Rattle.floor.specs.declared.Place.{Place}
+use Rattle.floor.specs.Joins.{is_joined}
+use Rattle.floor.specs.Tests.{every, every_below, some_below}
 use Rattle.motion.specs.Routes.{Route, Conflict}
 use Rattle.motion.specs.declared.route.RouteRefusal.{RouteRefusal}
 use Rattle.motion.specs.declared.route.RouteRefusal.TheVariants.{NoPlace, NoRoute}
-
-abbrev pub numbers : List Place → List ℕ
-numbers ps = map (λ p. p.0) ps
 
 -- ---- the meaning
 
@@ -32,7 +29,7 @@ pub record ListedRoute (f : Floor) (start target : ℕ) (ps : List ℕ) : Type 0
 
 -- a step that stays or goes to a neighbour
 abbrev pub may_step : Floor → ℕ → ℕ → Bool
-may_step f p q = q == p || some (λ n. nat_eq n q) (f.next p)
+may_step f p q = q == p || is_joined f p q
 
 -- the step after tick t is one that the floor has, and no wait if it is the last
 abbrev pub goes_on : Floor → List ℕ → ℕ → Bool

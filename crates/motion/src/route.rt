@@ -1,6 +1,7 @@
 ghost use Rattle.std.specs.Prelude.{◌≡◌, ◌+◌, ◌<◌, max, length, nat_lt, Some};
 ghost use Rattle.floor.specs.Tests.{every};
-ghost use Rattle.motion.specs.Listed.{clash, goes_on, in_conflict, may_step, is_route, numbers, place_at, route_check, ConflictTestTells, RouteTestTells};
+ghost use Rattle.floor.specs.Numbers.{numbers};
+ghost use Rattle.motion.specs.Listed.{clash, goes_on, in_conflict, may_step, is_route, place_at, route_check, ConflictTestTells, RouteTestTells};
 ghost use Rattle.motion.specs.Refusals.{number_of, word_of};
 
 use crate::trip::Trip;

@@ -1,5 +1,3 @@
-pub mod Each
-pub mod Entering
 pub mod Exactly
 pub mod Firsts
 pub mod Sums

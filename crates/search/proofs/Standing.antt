@@ -1,6 +1,5 @@
 -- A cart can stand at a place exactly where the cart is there and a walk ends at that place of the floor.
-use Rattle.std.proofs.Common.{◌≡◌, ℕ, zero, suc, ◌+◌, ◌<◌, ◌≤◌, Bool, true, false, ◌&&◌, List, length, Decides, sym, ap, ◌∙◌, add-one, arith}
-use Rattle.std.proofs.lemmas.Bool.{lt-ltb}
+use Rattle.std.proofs.Common.{◌≡◌, ℕ, zero, suc, ◌<◌, ◌≤◌, true, false, List, length, Decides, sym, arith}
 use Rattle.std.proofs.lemmas.Bool.Decides.{Decides-and, Decides-like, Decides-ltb}
 use Rattle.floor.specs.Floor.{Floor, Lawful}
 use Rattle.floor.proofs.Deciding.{decides_some_below, false_from_decides}
@@ -30,14 +29,3 @@ module _ (f : Floor) (trips : List Trip) (bans : List Ban) (a : ℕ) where
 
   pub gone_never_before : Lawful f → length trips ≤ a → (n p : ℕ) → false ≡ stands_before f trips bans a n p
   gone_never_before law gone n p = sym (false_from_decides _ (decides_stands_before law n p) (λ h. let there = h.2.0 in omega arith))
-
-  -- what is computed for a cart that is there: of its row, and of a row that is equal to it
-  pub there_by_row : a < length trips → (u p : ℕ) → marked (row_at f trips bans a u) p ≡ can_stand f trips bans a u p
-  there_by_row there u p = sym (ap (λ t. t && marked (row_at f trips bans a u) p) (lt-ltb a (length trips) there))
-
-  pub there_by_same_row : a < length trips → (u p : ℕ) (row : List Bool) → row ≡ row_at f trips bans a u → marked row p ≡ can_stand f trips bans a u p
-  there_by_same_row there u p row is = ap (λ r. marked r p) is ∙ there_by_row there u p
-
-  -- tick n decides, where the cart cannot stand there before
-  pub before_next : (n p : ℕ) → stands_before f trips bans a n p ≡ false → can_stand f trips bans a n p ≡ stands_before f trips bans a (n + 1) p
-  before_next n p none = grind (arith, add-one n)

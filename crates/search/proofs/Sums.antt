@@ -1,5 +1,5 @@
 -- Sums of what may be absent. Speaks of no floor.
-use Rattle.std.proofs.Common.{◌≡◌, ℕ, zero, suc, ◌+◌, ◌<◌, ◌≤◌, Some, None, Option, unwrap_or, sym, refl, ap, ◌∙◌, ap₂, arith, MatchOption}
+use Rattle.std.proofs.Common.{◌≡◌, ℕ, zero, suc, ◌+◌, ◌*◌, ◌<◌, ◌≤◌, Some, None, Option, unwrap_or, sym, refl, ap, ◌∙◌, ap₂, arith, MatchOption}
 use Rattle.motion.specs.Routes.{total}
 use Rattle.search.specs.Sums.{plus, sum_below}
 use Rattle.search.proofs.Firsts.{below_suc}
@@ -32,3 +32,7 @@ total_mono x y (suc n) h = grind (arith, total_mono x y n)
 pub total_part : (x : ℕ → ℕ) (n a : ℕ) → a < n → x a ≤ total n x
 total_part x zero a h = absurd (omega arith)
 total_part x (suc n) a h = grind (arith, total_part x n a)
+
+pub total_most : (x : ℕ → ℕ) (most : ℕ) → ((a : ℕ) → x a ≤ most) → (n : ℕ) → total n x ≤ most * n
+total_most x most each zero = omega arith
+total_most x most each (suc n) = let rest = total_most x most each n in let last = each n in omega arith

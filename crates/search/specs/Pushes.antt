@@ -1,7 +1,8 @@
 -- A row as it is worked out by pushing: each place that is marked gives its marks to where a step leads.
-use Rattle.std.specs.Prelude.{ℕ, Bool, ◌&&◌, ◌||◌, List, ◌==◌, nat_eq}
+use Rattle.std.specs.Prelude.{ℕ, Bool, ◌&&◌, List}
 use Rattle.floor.specs.Floor.{Floor}
-use Rattle.floor.specs.Tests.{some, some_below}
+use Rattle.floor.specs.Tests.{some_below}
+use Rattle.motion.specs.Listed.{may_step}
 use Rattle.motion.specs.declared.trip.Trip.{Trip}
 use Rattle.motion.specs.declared.ban.Ban.{Ban}
 use Rattle.search.specs.Rows.{marked, can_be, can_go}
@@ -10,13 +11,10 @@ use Rattle.search.specs.Rows.{marked, can_be, can_go}
 abbrev pub can_enter : List Trip → List Ban → ℕ → ℕ → ℕ → ℕ → Bool
 can_enter trips bans a t p q = can_go bans a t p q && can_be trips bans a t q
 
-abbrev pub is_step : Floor → ℕ → ℕ → Bool
-is_step f p q = p == q || some (λ x. nat_eq x q) (f.next p)
-
 module _ (f : Floor) (trips : List Trip) (bans : List Ban) (a : ℕ) where
   -- step from p to q, arriving at tick t
   abbrev pub can_step : ℕ → ℕ → ℕ → Bool
-  can_step t p q = is_step f p q && can_enter trips bans a t p q
+  can_step t p q = may_step f p q && can_enter trips bans a t p q
 
   -- step from some place below n that the row marks to q, arriving at tick t
   abbrev pub pushed : ℕ → List Bool → ℕ → ℕ → Bool

@@ -1,8 +1,9 @@
 -- The corridor's answer, from the tests that were passed and the chain that was followed.
-use Rattle.std.proofs.Common.{◌≡◌, Bool, true, false, not, ◌&&◌, List, Ok, Result, refl, sym, ap, ◌∙◌, ap₂}
+use Rattle.std.proofs.Common.{◌≡◌, Bool, true, not, ◌&&◌, List, Ok, Result, refl, sym, ap, ◌∙◌, ap₂}
 use Rattle.floor.specs.Checks.{refuse, ◌>>◌}
 use Rattle.floor.specs.Floor.{Floor}
-use Rattle.motion.specs.Listed.{numbers}
+use Rattle.floor.proofs.Chains.{not_refused}
+use Rattle.floor.specs.Numbers.{numbers}
 use Rattle.motion.specs.declared.trip.Trip.{Trip}
 use Rattle.motion.specs.declared.ban.Ban.{Ban}
 use Rattle.splits.specs.Conditions.{is_two, is_on_floor, is_in_time, judge}
@@ -13,10 +14,6 @@ use Rattle.splits.specs.declared.corridor.places.Chain.{Chain}
 use Rattle.splits.specs.declared.refusal.SplitRefusal.{SplitRefusal}
 use Rattle.splits.specs.declared.refusal.SplitRefusal.TheVariants.{NoCart, NoPlace, BadTick, Unlawful}
 
-passed : {E : Type 0} (b : Bool) (e : E) → Ok tt ≡ refuse (not b) e → b ≡ true
-passed true e h = refl
-passed false e h = cc
-
 all_passed : (carts p q m n : Bool) → carts ≡ true → p ≡ true → q ≡ true → m ≡ true → n ≡ true → judge carts (p && q) (m && n) ≡ Ok tt
 all_passed carts p q m n c-yes p-yes q-yes m-yes n-yes = rw (c-yes, p-yes, q-yes, m-yes, n-yes) refl
 
@@ -25,7 +22,7 @@ module _ (f : Floor) (trips : List Trip) (bans : List Ban) (o : Passage) (two : 
     (m_in : Ok tt ≡ refuse (not (is_in_time o.m)) BadTick) (n_in : Ok tt ≡ refuse (not (is_in_time o.n)) BadTick)
     (chain : Chain) (same : chain.passage ≡ o) (led : numbers chain.places ≡ along f o.p.0 o.q.0 64) where
   conditions_hold : judge (is_two trips o.a o.b) (is_on_floor f o.p && is_on_floor f o.q) (is_in_time o.m && is_in_time o.n) ≡ Ok tt
-  conditions_hold = all_passed _ _ _ _ _ (passed _ _ two) (passed _ _ p_on) (passed _ _ q_on) (passed _ _ m_in) (passed _ _ n_in)
+  conditions_hold = all_passed _ _ _ _ _ (not_refused _ _ two) (not_refused _ _ p_on) (not_refused _ _ q_on) (not_refused _ _ m_in) (not_refused _ _ n_in)
 
   by_the_chain : (lies : Bool) → lies ≡ is_lying f trips bans chain.passage (listed_at (numbers chain.places)) →
       corridor_sides f trips bans o ≡ (refuse (not lies) Unlawful >> Ok (corridor_bans chain.passage (listed_at (numbers chain.places))))

@@ -8,7 +8,7 @@ use Rattle.std.proofs.lemmas.List.{get_or-take, length-set, length-take-le, take
 use Rattle.floor.specs.Floor.{Floor}
 use Rattle.floor.specs.Tests.{every_below}
 use Rattle.floor.specs.declared.Place.{Place}
-use Rattle.motion.specs.Listed.{numbers}
+use Rattle.floor.specs.Numbers.{numbers}
 use Rattle.splits.specs.Corridor.{place}
 use Rattle.splits.specs.CorridorRule.{along, listed_at, onward, is_new, all_differ}
 

@@ -1,7 +1,7 @@
 ghost use Rattle.std.specs.Prelude.{◌≡◌, ◌<◌, ◌≤◌, true, false, ◌||◌, length, drop, nat_le};
 ghost use Rattle.checking.specs.Books.{tally_in};
 ghost use Rattle.checking.specs.OpenBranches.{current};
-ghost use Rattle.motion.specs.Listed.{numbers};
+ghost use Rattle.floor.specs.Numbers.{numbers};
 ghost use Rattle.tally.specs.Tallies.{at_start, is_shown, with_closing, with_route, with_split};
 
 use crate::book::Book;

@@ -2,7 +2,7 @@ ghost use Rattle.std.specs.Prelude.{◌≡◌, IfOk, IfErr, OnErr};
 ghost use Rattle.checking.specs.Books.{tally_in};
 ghost use Rattle.checking.specs.CallsMade.{meant};
 ghost use Rattle.checking.specs.Checks.{opening_of, Answers, IsCurrent, RefusesBranches};
-ghost use Rattle.motion.specs.Listed.{numbers};
+ghost use Rattle.floor.specs.Numbers.{numbers};
 ghost use Rattle.tally.specs.Calls.{show, split, close};
 ghost use Rattle.tally.specs.Standings.{settle, standing};
 ghost use Rattle.tally.specs.Tallies.{at_start};

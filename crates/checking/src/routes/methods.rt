@@ -1,7 +1,8 @@
 ghost use Rattle.std.specs.Prelude.{◌≡◌, ◌<◌, ◌≤◌, false, [], ◌∷◌, ◌++◌, length, nat_eq};
 ghost use Rattle.checking.specs.ShownRoutes.{shown_in};
 ghost use Rattle.floor.specs.Tests.{some};
-ghost use Rattle.motion.specs.Listed.{in_conflict, numbers, steps};
+ghost use Rattle.floor.specs.Numbers.{numbers};
+ghost use Rattle.motion.specs.Listed.{in_conflict, steps};
 ghost use Rattle.std.specs.List.{find};
 ghost use Rattle.std.specs.Option.{option_copied, unwrap_or};
 ghost use Rattle.tally.specs.Tallies.{is_shown, places_of};

@@ -1,5 +1,5 @@
 ghost use Rattle.std.specs.Prelude.{◌≡◌};
-ghost use Rattle.motion.specs.Listed.{numbers};
+ghost use Rattle.floor.specs.Numbers.{numbers};
 ghost use Rattle.plan.specs.Commands.{words};
 
 use crate::places::Places;

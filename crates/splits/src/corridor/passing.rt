@@ -1,6 +1,6 @@
 // Whether two carts can only go through a corridor, one each way.
 ghost use Rattle.std.specs.Prelude.{◌≡◌, ◌≤◌};
-ghost use Rattle.motion.specs.Listed.{numbers};
+ghost use Rattle.floor.specs.Numbers.{numbers};
 ghost use Rattle.splits.specs.CorridorRule.{barred, listed_at, is_passing, are_passing};
 
 use crate::corridor::passage::Through;

@@ -1,7 +1,7 @@
 // The places of a corridor.
 ghost use Rattle.std.specs.Prelude.{◌≡◌, suc, pred, ◌+◌, ◌-◌, ◌<◌, ◌≤◌, ◌==◌, false, not, ◌&&◌, drop, take, length, nat_le, IfNone, IfSome};
 ghost use Rattle.floor.specs.Tests.{every_below};
-ghost use Rattle.motion.specs.Listed.{numbers};
+ghost use Rattle.floor.specs.Numbers.{numbers};
 ghost use Rattle.motion.specs.declared.ban.Ban.TheVariants.{Stand};
 ghost use Rattle.splits.specs.Corridor.{forth, back, corridor_bans, tick};
 ghost use Rattle.splits.specs.CorridorRule.{onward, along, listed_at, is_narrow, all_differ, is_corridor, are_outside, is_lying};

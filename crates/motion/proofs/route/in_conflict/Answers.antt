@@ -4,7 +4,8 @@ use Rattle.floor.proofs.Deciding.{some_in_range}
 use Rattle.std.proofs.lemmas.Bool.Decides.{nat_tests}
 use Rattle.std.proofs.lemmas.Iterator.{YieldsList-from_range}
 use Rattle.std.proofs.lemmas.Iterator.Search.{any_from_yields_List}
-use Rattle.motion.specs.Listed.{clash, numbers, place_at}
+use Rattle.floor.specs.Numbers.{numbers}
+use Rattle.motion.specs.Listed.{clash, place_at}
 use Rattle.motion.proofs.Conflicting.{conflict_test_tells}
 use Rattle.motion.proofs.Reading.{conflict_read}
 use Rattle.motion.proofs.route.in_conflict.Goals as goal

@@ -4,7 +4,8 @@ use Rattle.floor.proofs.Deciding.{every_in_range}
 use Rattle.std.proofs.lemmas.Bool.Decides.{nat_tests}
 use Rattle.std.proofs.lemmas.Iterator.{YieldsList-from_range}
 use Rattle.std.proofs.lemmas.Iterator.Search.{all_from_yields_List}
-use Rattle.motion.specs.Listed.{goes_on, numbers}
+use Rattle.floor.specs.Numbers.{numbers}
+use Rattle.motion.specs.Listed.{goes_on}
 use Rattle.motion.proofs.Reading.{route_read}
 use Rattle.motion.proofs.route.is_route.Goals as goal
 

@@ -1,6 +1,7 @@
 use Rattle.std.proofs.Common.{rules}
 use borrow.Author.Tests.{tests}
-use Rattle.motion.specs.Listed.{in_conflict, numbers}
+use Rattle.floor.specs.Numbers.{numbers}
+use Rattle.motion.specs.Listed.{in_conflict}
 use Rattle.std.proofs.lemmas.Iterator.Search.{any_from_yields_List}
 use Rattle.std.proofs.lemmas.Iterator.{YieldsList-from_slice}
 use Rattle.checking.proofs.KeptRoutes.{some_shown}

@@ -1,5 +1,5 @@
 use Rattle.std.proofs.Common.{◌≡◌, take}
-use Rattle.motion.specs.Listed.{numbers}
+use Rattle.floor.specs.Numbers.{numbers}
 use Rattle.plan.proofs.Pairs.{numbers_of}
 use Rattle.plan.proofs.places.Places.decode.Given as goal
 
