@@ -3,3 +3,4 @@ pub mod Bans
 pub mod Stands
 pub mod Listed
 pub mod Refusals
+pub mod BanTexts

@@ -1,4 +1,5 @@
-ghost use Rattle.std.specs.Prelude.{◌≡◌};
+ghost use Rattle.std.specs.Prelude.{◌≡◌, Some};
+ghost use Rattle.motion.specs.BanTexts.{ban_text};
 ghost use Rattle.motion.specs.declared.ban.Ban.TheVariants.{Stand, Move};
 
 use floor::{Cart, Place, Tick};
@@ -63,6 +64,8 @@ impl Ban {
 
 // A ban in words.
 impl Display for Ban {
+    ghost output = { λ ban. Some (ban_text ban) };
+
     fn fmt<W: fmt::Write>(&self, f: &mut Formatter<W>) -> fmt::Result {
         match *self {
             Ban::Stand {
