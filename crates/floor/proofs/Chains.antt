@@ -56,7 +56,7 @@ module _ {A E : Type 0} (P : A → Type 0) (Q : E → Type 0) where
   then_tells (Err e) next h = h
 
   pub cond_tells : {C : Type 0} (t : Bool) (x y : Result A E) → Decides t C → (C → MatchResult x P Q) → ((C → ⊥) → MatchResult y P Q) → MatchResult (cond t x y) P Q
-  cond_tells t x y decides yes-case no-case = cond_both t x y (λ r. MatchResult r P Q) (λ e. yes-case (decides.0 e)) (λ e. no-case (not_from_Decides t decides e))
+  cond_tells t x y decides yes_case no_case = cond_both t x y (λ r. MatchResult r P Q) (λ e. yes_case (decides.0 e)) (λ e. no_case (not_from_Decides t decides e))
 
   pub unless_tells : {C : Type 0} (t : Bool) (e : E) (next : Result A E) → Decides t C → (C → MatchResult next P Q) → ((C → ⊥) → Q e) → MatchResult (refuse (not t) e >> next) P Q
   unless_tells true e next decides passed refused = passed (decides.0 refl)

@@ -69,7 +69,7 @@ text_when_read bytes n fit h =
 text_read : (n : Network) (rest : List ℕ) → Proper n → list_reading (list_text n ++ rest) ≡ connecting n (length (list_text n)) rest
 unfolding list_reading
 text_read n rest proper =
-    let founded = founding_ok n.places proper.lawful.some proper.lawful.most in
+    let founded = founding_ok n.places proper.lawful.has_a_place proper.lawful.at_most_1024 in
     bind_at (beginning (list_text n)) (λ j. connecting j 3 (texts n.connections ++ rest)) (bare n.places) (ap (λ k. blame 0 (founding k)) (word_back n.places) ∙ ap (blame 0) founded)
     ∙ connecting_on n.connections (bare n.places) 3 rest proper ∙ ap (λ k. connecting n k rest) (omega arith)
 

@@ -18,7 +18,7 @@ founding_gives places n h = (grind (arith, nat_tests), bare_proper places (grind
 
 founding_is_proper : FoundingIsProper
 founding_is_proper places =
-    (λ h. (founding_gives places (bare places) h).1, λ proper. founding_ok places proper.lawful.some proper.lawful.most)
+    (λ h. (founding_gives places (bare places) h).1, λ proper. founding_ok places proper.lawful.has_a_place proper.lawful.at_most_1024)
 
 module _ (places : ℕ) where
   decides_in_count : Decides (leb 1 places && leb places 1024) (InCount places)

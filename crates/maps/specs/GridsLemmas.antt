@@ -118,11 +118,11 @@ module _ (g : Grid) (sized : Sized g) where
   pub grid_lawful : Lawful (grid_floor g)
   grid_lawful =
       record {
-        some = mul-le 1 1 _ _ sized.some_rows sized.some_columns;
-        most = mul-le _ _ 32 32 sized.most_rows sized.most_columns;
-        few = λ p. omega (arith, few_around p);
+        has_a_place = mul-le 1 1 _ _ sized.some_rows sized.some_columns;
+        at_most_1024 = mul-le _ _ 32 32 sized.most_rows sized.most_columns;
+        at_most_8_neighbours = λ p. omega (arith, few_around p);
         on_floor = λ p q j. let b = (neighbours_are_beside p q).0 j in (free_is_on_floor p b.0, free_is_on_floor q b.1);
-        apart = λ p j. never_beside_itself g.width p ((neighbours_are_beside p p).0 j).2;
+        not_its_own = λ p j. never_beside_itself g.width p ((neighbours_are_beside p p).0 j).2;
         once = λ p. once_from_differ (around g p) (around_differ p);
         both_ways = λ p q j. let b = (neighbours_are_beside p q).0 j in (neighbours_are_beside q p).1 (b.1, b.0, side_by_side_back g.width p q b.2);
       }

@@ -66,14 +66,14 @@ module _ (n : Network) (c : Connection) where
   pub proper_from_fits : Proper n → Fits n c → Proper (with_connection n c)
   proper_from_fits proper fits = record {
     lawful = record {
-      some = law.some;
-      most = law.most;
-      few = λ p. ⊎_elim
+      has_a_place = law.has_a_place;
+      at_most_1024 = law.at_most_1024;
+      at_most_8_neighbours = λ p. ⊎_elim
           (λ l. let long = length_push (partners p cs) l.0 in let room = (fits.ends p l.0 l.1.links).room in rw (partners_push p cs c l.0 l.1) (omega arith))
-          (λ past. rw (partners_past p cs c past) (law.few p)) (cases_end p c);
+          (λ past. rw (partners_past p cs c past) (law.at_most_8_neighbours p)) (cases_end p c);
       on_floor = λ p q j. ⊎_elim (λ l. law.on_floor p q (joined_from_linked n p q l))
           (⊎_elim (λ l. ((fits.ends p q l).on, (fits.ends q p (⊎_elim inr inl l)).on)) (λ h. absurd h)) (cases p q j);
-      apart = λ p j. ⊎_elim (λ l. law.apart p (joined_from_linked n p p l)) (⊎_elim (λ l. (fits.ends p p l).apart refl) (λ h. h)) (cases p p j);
+      not_its_own = λ p j. ⊎_elim (λ l. law.not_its_own p (joined_from_linked n p p l)) (⊎_elim (λ l. (fits.ends p p l).apart refl) (λ h. h)) (cases p p j);
       once = λ p. ⊎_elim
           (λ l. rw (partners_push p cs c l.0 l.1) (once_push (partners p cs) l.0 (law.once p) (λ h. (fits.ends p l.0 l.1.links).new (linked_from_has p l.0 cs h))))
           (λ past. rw (partners_past p cs c past) (law.once p)) (cases_end p c);
@@ -93,9 +93,9 @@ module _ (n : Network) (c : Connection) where
     few = let long = length_push cs c in let le = proper.few in omega arith;
     ends = λ p q h. record {
       on = (law.on_floor p q (joined p q h)).0;
-      apart = λ e. law.apart p (rw (sym e) at (joined p q h));
+      apart = λ e. law.not_its_own p (rw (sym e) at (joined p q h));
       new = λ l. once_new (partners p cs) q (rw (more p q h) at (law.once p)) (has_from_linked p q cs l);
-      room = let long = length_push (partners p cs) q in let le = rw (more p q h) at (law.few p) in omega arith;
+      room = let long = length_push (partners p cs) q in let le = rw (more p q h) at (law.at_most_8_neighbours p) in omega arith;
     };
   }
     where

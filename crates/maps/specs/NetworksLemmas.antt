@@ -30,22 +30,22 @@ joined_back n p q j = joined_from_linked n q p (linked_back p q n.connections (l
 -- all but `both_ways` lies in propositions
 pub lawful_out : (n : Network) → ∥ Lawful (network_floor n) ∥₁ → Lawful (network_floor n)
 lawful_out n law = record {
-  some = ∥∥₁_elim law le_prop (λ l. l.some);
-  most = ∥∥₁_elim law le_prop (λ l. l.most);
-  few = λ p. ∥∥₁_elim law le_prop (λ l. l.few p);
+  has_a_place = ∥∥₁_elim law le_prop (λ l. l.has_a_place);
+  at_most_1024 = ∥∥₁_elim law le_prop (λ l. l.at_most_1024);
+  at_most_8_neighbours = λ p. ∥∥₁_elim law le_prop (λ l. l.at_most_8_neighbours p);
   on_floor = λ p q j. (∥∥₁_elim law le_prop (λ l. (l.on_floor p q j).0), ∥∥₁_elim law le_prop (λ l. (l.on_floor p q j).1));
-  apart = λ p j. ∥∥₁_elim law ⊥_prop (λ l. l.apart p j);
+  not_its_own = λ p j. ∥∥₁_elim law ⊥_prop (λ l. l.not_its_own p j);
   once = λ p i j hi hj e. ∥∥₁_elim law (ℕ_set i j) (λ l. l.once p i j hi hj e);
   both_ways = joined_back n;
 }
 
 pub bare_lawful : (places : ℕ) → 1 ≤ places → places ≤ 1024 → Lawful (network_floor (bare places))
 bare_lawful places some most = record {
-  some = some;
-  most = most;
-  few = λ p. omega arith;
+  has_a_place = some;
+  at_most_1024 = most;
+  at_most_8_neighbours = λ p. omega arith;
   on_floor = λ p q j. absurd (nobody p q j);
-  apart = λ p j. nobody p p j;
+  not_its_own = λ p j. nobody p p j;
   once = λ p i j hi hj e. absurd (omega arith);
   both_ways = joined_back (bare places);
 }
@@ -71,11 +71,11 @@ module _ (places : ℕ) (cs ds : List Connection) where
   pub proper_prefix : Proper whole → Proper front
   proper_prefix proper = record {
     lawful = record {
-      some = law.some;
-      most = law.most;
-      few = λ p. let long = length-append (partners p cs) (partners p ds) in let le = rw (partners_append p cs ds) at (law.few p) in omega arith;
+      has_a_place = law.has_a_place;
+      at_most_1024 = law.at_most_1024;
+      at_most_8_neighbours = λ p. let long = length-append (partners p cs) (partners p ds) in let le = rw (partners_append p cs ds) at (law.at_most_8_neighbours p) in omega arith;
       on_floor = λ p q j. law.on_floor p q (joined_front p q j);
-      apart = λ p j. law.apart p (joined_front p p j);
+      not_its_own = λ p j. law.not_its_own p (joined_front p p j);
       once = λ p. once_front (partners p cs) (partners p ds) (rw (partners_append p cs ds) at (law.once p));
       both_ways = joined_back front;
     };

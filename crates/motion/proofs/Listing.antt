@@ -22,7 +22,7 @@ module _ (f : Floor) (start target : ℕ) (ps : List ℕ) where
   decides_route =
       Decides-like _
       (λ h. (h.0.0.0.0, h.0.0.0.1, route_from_steps f (place_at ps) (steps ps) start target (λ t. stays_at ps _ t (omega arith)) h.0.0.1 h.0.1 h.1))
-      (λ h. let r = h.2 in ((((h.0, h.1), steps_from_route f (place_at ps) (steps ps) start target r), r.begins), r.home (steps ps) (omega arith)))
+      (λ h. let r = h.2 in ((((h.0, h.1), steps_from_route f (place_at ps) (steps ps) start target r), r.begins), r.arrived (steps ps) (omega arith)))
       (Decides-and _ _
       (Decides-and _ _ (Decides-and _ _ (Decides-and _ _ (decides_leb _ _) (decides_leb _ _)) (decides_every_below _ _ (decides_goes_on f ps) (steps ps))) (Decides-eqb _ _))
       (Decides-eqb _ _))

@@ -40,4 +40,4 @@ route_read f start target xs =
 pub conflict_read : (xs ys : List Place) →
     in_conflict (numbers xs) (numbers ys) ≡ (leb 1 (length xs) && leb 1 (length ys) && some_below (clash (place_at (numbers xs)) (place_at (numbers ys))) (max (length xs) (length ys)))
 unfolding in_conflict
-conflict_read xs ys = let long-x = length-map xs (λ p. p.0) in let long-y = length-map ys (λ p. p.0) in cc
+conflict_read xs ys = let long_x = length-map xs (λ p. p.0) in let long_y = length-map ys (λ p. p.0) in cc

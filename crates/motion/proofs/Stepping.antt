@@ -5,7 +5,7 @@ use Rattle.floor.proofs.Neighbours.{decides_joined}
 use Rattle.std.proofs.lemmas.Bool.{cases_lt}
 use Rattle.std.proofs.lemmas.Bool.Decides.{Decides-eqb, Decides-or}
 use Rattle.motion.specs.Listed.{may_step}
-use Rattle.motion.specs.Routes.{Home, Route, Step}
+use Rattle.motion.specs.Routes.{AtTargetFrom, Route, Step}
 
 pub decides_step : (f : Floor) (p q : ℕ) → Decides (may_step f p q) (Step f p q)
 decides_step f p q = Decides-or _ _ (Decides-eqb q p) (decides_joined f p q)
@@ -20,16 +20,16 @@ module _ (f : Floor) (r : ℕ → ℕ) (n : ℕ) where
     route_from_steps stays goes begins ends = record {
       begins = begins;
       steps = λ t. ⊎_elim (λ lt. (goes t lt).0) (λ le. inl (stays (suc t) (omega arith) ∙ sym (stays t le))) (cases_lt t n);
-      home = λ t le. stays t le ∙ ends;
-      least = λ m home. ⊎_elim (λ lt. absurd (early m lt home)) (λ le. le) (cases_lt m n);
+      arrived = λ t le. stays t le ∙ ends;
+      least = λ m rests. ⊎_elim (λ lt. absurd (early m lt rests)) (λ le. le) (cases_lt m n);
     }
       where
-        -- not at home before the last step arrives
-        early : (m : ℕ) → m < n → Home target r m → ⊥
-        early m lt home = ⊎_elim (λ more. omega arith) (λ moves. moves (home (n - 1) (omega arith) ∙ sym (home (suc (n - 1)) (omega arith)))) (goes (n - 1) (omega arith)).1
+        -- not at the target for ever before the last step arrives
+        early : (m : ℕ) → m < n → AtTargetFrom target r m → ⊥
+        early m lt rests = ⊎_elim (λ more. omega arith) (λ moves. moves (rests (n - 1) (omega arith) ∙ sym (rests (suc (n - 1)) (omega arith)))) (goes (n - 1) (omega arith)).1
 
     pub steps_from_route : Route f start target r n → (t : ℕ) → t < n → GoesOn t
-    steps_from_route route t lt = (route.steps t, ⊎_elim inl (λ last. inr (λ waits. omega (arith, route.least t (home last waits)))) (cases_lt (suc t) n))
+    steps_from_route route t lt = (route.steps t, ⊎_elim inl (λ last. inr (λ waits. omega (arith, route.least t (rests last waits)))) (cases_lt (suc t) n))
       where
-        home : n ≤ suc t → r t ≡ r (suc t) → Home target r t
-        home last waits u le = ⊎_elim (λ more. route.home u (omega arith)) (λ here. let e : u ≡ t = omega arith in rw e (waits ∙ route.home (suc t) last)) (cases_lt t u)
+        rests : n ≤ suc t → r t ≡ r (suc t) → AtTargetFrom target r t
+        rests last waits u le = ⊎_elim (λ more. route.arrived u (omega arith)) (λ here. let e : u ≡ t = omega arith in rw e (waits ∙ route.arrived (suc t) last)) (cases_lt t u)

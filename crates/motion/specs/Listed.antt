@@ -10,6 +10,7 @@ use Rattle.motion.specs.declared.route.RouteRefusal.TheVariants.{NoPlace, NoRout
 
 -- ---- the meaning
 
+-- how many steps a list of places makes
 abbrev pub steps : List ℕ → ℕ
 steps ps = length ps - 1
 
@@ -39,6 +40,7 @@ goes_on f ps t = may_step f (place_at ps t) (place_at ps (suc t)) && (nat_lt (su
 abbrev pub is_route : Floor → ℕ → ℕ → List ℕ → Bool
 is_route f start target ps = nat_le 1 (length ps) && nat_le (steps ps) 255 && every_below (goes_on f ps) (steps ps) && place_at ps 0 == start && place_at ps (steps ps) == target
 
+-- the two tests of a list of places, in their order
 unfoldable pub route_check : Floor → ℕ → ℕ → List ℕ → Result (Unit {0}) RouteRefusal
 route_check f start target ps = do
   refuse (not (every (λ p. ltb p f.count) ps)) NoPlace

@@ -1,2 +1,2 @@
 pub mod Single
-pub mod Singles
+pub mod SingleLemmas

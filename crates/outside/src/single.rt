@@ -1,6 +1,6 @@
 ghost use Rattle.std.specs.Prelude.{◌≡◌};
 ghost use Rattle.outside.specs.Single.{doubling, single_rules};
-ghost use Rattle.outside.specs.Singles.{single_lawful};
+ghost use Rattle.outside.specs.SingleLemmas.{single_lawful};
 
 use floor::{Cart, FloorMap, Place, Tick};
 use motion::Ban;
@@ -23,7 +23,6 @@ pub struct Doubling {
     pub tick: Tick,
 }
 
-// No `From`: bytes mean this only behind the letter.
 fn read(operands: &[u8]) -> Doubling
     ensures { result ≡ doubling operands.now }
 {

@@ -24,10 +24,10 @@ use Rattle.report.specs.Files.{FilesFault, FilesFaultsExactly, FilesReadExactly,
 use Rattle.report.specs.SoundAndComplete.{FilesSoundAndComplete, HallOf}
 use Rattle.report.specs.declared.fault.Fault.{Fault}
 use Rattle.splits.specs.BesideRuleLemmas.{beside_lawful}
-use Rattle.splits.specs.CorridorRules.{corridor_lawful}
+use Rattle.splits.specs.CorridorLemmas.{corridor_lawful}
 use Rattle.splits.specs.Own.{own}
 use Rattle.splits.specs.Rules.{LawfulRules}
-use Rattle.splits.specs.VertexEdgeTarget.{edge_lawful, target_lawful, vertex_lawful}
+use Rattle.splits.specs.VertexEdgeTargetLemmas.{edge_lawful, target_lawful, vertex_lawful}
 use Rattle.tally.specs.declared.standing.Standing.{Standing}
 
 own_lawful : LawfulRules own

@@ -36,11 +36,11 @@ module _ (trips : List Trip) (a : ℕ) where
 
   pub decides_rest : (n p : ℕ) (b : Ban) → Decides (lets_rest trips a n p b) (Rests n p b)
   decides_rest n p (Stand c q f l) =
-      Decides-like _ (λ no-tick t from. (λ bar. let e = bar.1 in no-tick (bar.0, (omega arith, omega arith), bar.2), λ h. h))
+      Decides-like _ (λ no_tick t from. (λ bar. let e = bar.1 in no_tick (bar.0, (omega arith, omega arith), bar.2), λ h. h))
       (λ rests tick. let e = tick.1 in (rests (max f.0 n) (omega arith)).0 (tick.0, (omega arith, omega arith), tick.2))
       (Decides-not _ (decides_and3 _ _ _ (Decides-eqb c.0 a) (Decides-and _ _ (decides_leb f.0 l.0) (decides_leb n l.0)) (Decides-eqb q.0 p)))
   decides_rest n p (Move c q r f l) =
-      Decides-like _ (λ no-tick t from. (λ h. h, λ bar. let e = bar.1 in no-tick (bar.0, (omega arith, omega arith), bar.2, bar.3)))
+      Decides-like _ (λ no_tick t from. (λ h. h, λ bar. let e = bar.1 in no_tick (bar.0, (omega arith, omega arith), bar.2, bar.3)))
       (λ rests tick. let e = tick.1 in (rests (max (f.0 - 1) n) (omega arith)).1 (tick.0, (omega arith, omega arith), tick.2, tick.3))
       (Decides-not _ (decides_and4 _ _ _ _ (Decides-eqb c.0 a) (Decides-and _ _ (decides_leb f.0 l.0) (Decides-ltb n l.0)) (Decides-eqb q.0 p) (Decides-eqb r.0 p)))
   decides_rest n p (Late c u) = decides_yes (λ t from. (λ h. h, λ h. h))

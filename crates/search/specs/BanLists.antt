@@ -8,5 +8,6 @@ abbrev pub with_one : Option Ban → List Ban → List Ban
 with_one None bans = bans
 with_one (Some b) bans = b ∷ bans
 
+-- the bans of a branch, and one more where there is one
 abbrev pub listed : Bans → List Ban
 listed b = with_one b.more b.branch.now

@@ -15,18 +15,19 @@ can_end trips bans a n = every (lets_end a n) bans && every (lets_rest trips a n
 
 module _ (f : Floor) (trips : List Trip) (bans : List Ban) where
   -- the cart a can enter its target at tick t from a neighbour that the row marks
-  abbrev pub comes_home : ℕ → ℕ → List Bool → Bool
-  comes_home a t row = from_next f bans a t row (target_of trips a)
+  abbrev pub enters_target : ℕ → ℕ → List Bool → Bool
+  enters_target a t row = from_next f bans a t row (target_of trips a)
 
   -- the cart a can be at its target at tick n, and elsewhere the tick before if there is one
   abbrev pub arrives : ℕ → ℕ → Bool
   arrives a zero = start_of trips a == target_of trips a
-  arrives a (suc n) = comes_home a (suc n) (row_at f trips bans a n)
+  arrives a (suc n) = enters_target a (suc n) (row_at f trips bans a n)
 
   -- some route of the cart a of length n keeps the bans
   abbrev pub possible : ℕ → ℕ → Bool
   possible a n = can_end trips bans a n && arrives a n
 
+  -- the least length of the cart a, if it is below the limit
   abbrev pub least_below : ℕ → ℕ → Option ℕ
   least_below a limit = first_below (possible a) limit
 

@@ -5,6 +5,7 @@ use Rattle.motion.specs.declared.trip.Trip.{Trip}
 use Rattle.motion.specs.declared.ban.Ban.{Ban}
 use Rattle.motion.specs.declared.ban.Ban.TheVariants.{Stand, Move, Late, By}
 
+-- tick t is one of those from first to last, both included
 abbrev pub within : ℕ → ℕ → ℕ → Bool
 within first last t = nat_le first t && nat_le t last
 

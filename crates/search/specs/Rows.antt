@@ -8,12 +8,15 @@ use Rattle.motion.specs.declared.trip.Trip.{Trip}
 use Rattle.motion.specs.declared.ban.Ban.{Ban}
 use Rattle.search.specs.Lets.{lets_be, lets_go}
 
+-- the bans let the cart a be at p at tick t
 abbrev pub can_be : List Trip → List Ban → ℕ → ℕ → ℕ → Bool
 can_be trips bans a t p = every (lets_be trips a t p) bans
 
+-- the bans let the cart a go from p to q, or wait where they are one place, arriving at tick t
 abbrev pub can_go : List Ban → ℕ → ℕ → ℕ → ℕ → Bool
 can_go bans a t p q = every (lets_go a t p q) bans
 
+-- the row marks the place p; a row marks no place past its end
 abbrev pub marked : List Bool → ℕ → Bool
 marked row p = slice_index_or row p false
 
@@ -34,6 +37,7 @@ module _ (f : Floor) (trips : List Trip) (bans : List Ban) (a : ℕ) where
   abbrev pub next_row : ℕ → List Bool → List Bool
   next_row t row = map (reached t row) (range_with_len 0 f.count)
 
+  -- the row of tick u: the places that the cart a can stand at then
   abbrev pub row_at : ℕ → List Bool
   row_at zero = first_row trips bans a f.count
   row_at (suc u) = next_row (suc u) (row_at u)

@@ -1,6 +1,7 @@
 -- The first number that passes a test, and sums of what may be absent.
 use Rattle.std.specs.Prelude.{ℕ, zero, suc, ◌+◌, min, Bool, false, cond, Some, None, Option, nat_lt}
 
+-- the first of two numbers that is there
 abbrev pub or_else : Option ℕ → Option ℕ → Option ℕ
 or_else (Some m) o = Some m
 or_else None o = o
@@ -10,6 +11,7 @@ abbrev pub first_below : (ℕ → Bool) → ℕ → Option ℕ
 first_below P zero = None
 first_below P (suc n) = or_else (first_below P n) (cond (P n) (Some n) None)
 
+-- the sum of two numbers that may be absent: absent where either is
 abbrev pub plus : Option ℕ → Option ℕ → Option ℕ
 plus None o = None
 plus (Some m) None = None
@@ -25,6 +27,7 @@ abbrev pub capped : ℕ → Option ℕ → Option ℕ
 capped claim None = None
 capped claim (Some n) = Some (min n claim)
 
+-- the sum is there, and below the claim
 abbrev pub is_below : ℕ → Option ℕ → Bool
 is_below claim None = false
 is_below claim (Some n) = nat_lt n claim

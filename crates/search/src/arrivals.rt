@@ -2,7 +2,7 @@
 ghost use Rattle.std.specs.Prelude.{◌≡◌, ◌&&◌, ◌==◌};
 ghost use Rattle.motion.specs.Routes.{start_of, target_of};
 ghost use Rattle.search.specs.BanLists.{listed};
-ghost use Rattle.search.specs.Least.{can_end, comes_home};
+ghost use Rattle.search.specs.Least.{can_end, enters_target};
 ghost use Rattle.search.specs.Workspaces.{row_of};
 
 use crate::cart_search::CartSearch;
@@ -14,15 +14,15 @@ use motion::Length;
 
 impl<'a, M: FloorMap> CartSearch<'a, M> {
     // Whether the cart can enter its target at tick `t` from a neighbour that the row marks.
-    fn comes_home(&self, t: Tick, row: &[bool]) -> bool
-        ensures { result ≡ comes_home (M.floor self.now.map.now) self.now.trips.now (listed self.now.bans) self.now.cart t.0 row.now }
+    fn enters_target(&self, t: Tick, row: &[bool]) -> bool
+        ensures { result ≡ enters_target (M.floor self.now.map.now) self.now.trips.now (listed self.now.bans) self.now.cart t.0 row.now }
     {
         let target = trip_of(self.trips, self.cart).target;
         neighbours_of(self.map, target).any(|p| marks(row, p) && self.can_go(t, p, target))
     }
 
     // Whether the cart may stay where it starts, at its target.
-    pub fn starts_home(&self) -> bool
+    pub fn starts_at_target(&self) -> bool
         ensures { result ≡ (can_end self.now.trips.now (listed self.now.bans) self.now.cart 0 && start_of self.now.trips.now self.now.cart == target_of self.now.trips.now self.now.cart) }
     {
         let trip = trip_of(self.trips, self.cart);
@@ -31,8 +31,8 @@ impl<'a, M: FloorMap> CartSearch<'a, M> {
 
     // Whether the cart can have the length, where the row is that of the tick before.
     pub fn ends_at(&self, work: &Workspace, n: Length) -> bool
-        ensures { result ≡ (can_end self.now.trips.now (listed self.now.bans) self.now.cart n.0.0 && comes_home (M.floor self.now.map.now) self.now.trips.now (listed self.now.bans) self.now.cart n.0.0 (row_of (M.floor self.now.map.now).count work.now)) }
+        ensures { result ≡ (can_end self.now.trips.now (listed self.now.bans) self.now.cart n.0.0 && enters_target (M.floor self.now.map.now) self.now.trips.now (listed self.now.bans) self.now.cart n.0.0 (row_of (M.floor self.now.map.now).count work.now)) }
     {
-        self.can_end(n) && self.comes_home(n.0, &work.row[0..self.map.places()])
+        self.can_end(n) && self.enters_target(n.0, &work.row[0..self.map.places()])
     }
 }

@@ -14,7 +14,7 @@ pub struct Bans<'a> {
 impl<'a> Bans<'a> {
     ghost use Rattle.search.specs.BanLists.{listed};
 
-    // Whether every ban passes the test. In two parts, since a chain of the one more and the branch's leaves a goal.
+    // Whether every ban passes the test: first the one more, then the branch's.
     pub fn all<F: Fn(Ban) -> bool>(&self, passes: F) -> bool
         requires { F.IsAlwaysCallable passes }
         ensures { (p : Ban → Bool) → ((b : Ban) (r : Bool) → F.post passes b r → r ≡ p b) → result ≡ every p (listed self.now) }

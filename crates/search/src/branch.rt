@@ -38,7 +38,7 @@ impl<'a, M> Branch<'a, M> {
         }
     }
 
-    // The same, if the cart is there. Of `then` with a closure it was not proved.
+    // The same, if the cart is there: a `then` would hide from the proof what `search` gives.
     fn search_of(&self, cart: Cart, more: Option<Ban>) -> Option<CartSearch<'a, M>>
         ensures there { IfSome result (λ s. (cart.0 < length self.now.trips.now) × (s ≡ record { map = self.now.map; trips = self.now.trips; bans = record { branch = self.now.bans; more = more }; cart = cart.0 })) }
         ensures gone { IfNone result (length self.now.trips.now ≤ cart.0) }
@@ -65,9 +65,8 @@ impl<'a, M: FloorMap> Branch<'a, M> {
         search.marks(work, place)
     }
 
-    // Whether the cart can be at the place at some tick before the given one, as `can_stand` tells of one tick, under
-    // one ban more where there is one. A loop over ticks, since each row is made from the
-    // row before it.
+    // Whether the cart can be at the place at some tick before the given one, as `can_stand` tells of one tick, under one
+    // ban more where there is one. A loop over ticks, since each row is made from the row before it.
     pub fn stands_before(
         &self,
         work: &mut Workspace,

@@ -1,7 +1,8 @@
 use crate::bans::Bans;
 use motion::Trip;
 
-// The search of one cart, by its number, as there may be more trips than a `Cart` counts: the floor, the trips of all, and the bans that are kept.
+// The search of one cart: the floor, all trips, the bans to keep, and the cart's number. The number is a `usize`, as
+// there may be more trips than a `Cart` can count.
 #[derive(Drop)]
 pub struct CartSearch<'a, M> {
     pub map: &'a M,

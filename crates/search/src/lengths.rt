@@ -16,7 +16,7 @@ impl<'a, M: FloorMap> CartSearch<'a, M> {
         ensures { option_map (λ n. n.0.0) result ≡ least_below (M.floor self.now.map.now) self.now.trips.now (listed self.now.bans) self.now.cart limit.0.0 }
     {
         let last = limit.0.0.checked_sub(1)?;
-        if self.starts_home() {
+        if self.starts_at_target() {
             return Some(Length(Tick(0)));
         }
         self.start(work);

@@ -51,7 +51,8 @@ impl<'a, M: FloorMap> CartSearch<'a, M> {
         }
     }
 
-    // Writes the row of tick `t` from the row of the tick before. The lengths are asked, since both rows are lent anew.
+    // Writes the row of tick `t` from the row of the tick before. Each row has a mark for every place of the floor: that is
+    // asked here, since a slice that is lent does not tell it.
     pub fn step(&self, t: Tick, row: &[bool], next: &mut [bool])
         requires row { length row.now ≡ (M.floor self.now.map.now).count }
         requires next { length next.old ≡ (M.floor self.now.map.now).count }

@@ -10,7 +10,7 @@ use Rattle.floor.specs.Tests.{every_below}
 use Rattle.floor.specs.declared.Place.{Place}
 use Rattle.floor.specs.Numbers.{numbers}
 use Rattle.splits.specs.Corridor.{place}
-use Rattle.splits.specs.CorridorRule.{along, listed_at, onward, is_new, all_differ}
+use Rattle.splits.specs.CorridorTests.{along, listed_at, onward, is_new, all_differ}
 
 pub listed_place : (ps : List Place) (i : ℕ) → listed_at (numbers ps) i ≡ (get_or ps i (place 0)).0
 listed_place [] i = refl

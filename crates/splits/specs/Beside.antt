@@ -2,6 +2,7 @@
 use Rattle.std.specs.Prelude.{cond, ◌||◌}
 use Rattle.splits.specs.Rules.{Rules}
 
+-- the first of two rules where it knows the letter, else the second
 abbrev pub beside : Rules → Rules → Rules
 beside a b = record {
   knows = λ l. a.knows l || b.knows l;

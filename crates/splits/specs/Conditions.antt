@@ -17,6 +17,7 @@ use Rattle.splits.specs.declared.refusal.SplitRefusal.TheVariants.{NoCart, NoPla
 abbrev pub Two : List Trip → Cart → Cart → Type 0
 Two trips a b = (a.0 < length trips) × (b.0 < length trips) × (a.0 ≢ b.0)
 
+-- a place of the floor
 abbrev pub OnFloor : Floor → Place → Type 0
 OnFloor f p = p.0 < f.count
 
@@ -31,12 +32,15 @@ Tells carts places ticks own (Ok sides) = carts × places × ticks × own sides
 
 -- ---- the tests
 
+-- they are two carts of the check
 abbrev pub is_two : List Trip → Cart → Cart → Bool
 is_two trips a b = nat_lt a.0 (length trips) && (nat_lt b.0 (length trips) && not (a.0 == b.0))
 
+-- it is a place of the floor
 abbrev pub is_on_floor : Floor → Place → Bool
 is_on_floor f p = nat_lt p.0 f.count
 
+-- no split names a tick above 4,000
 abbrev pub is_in_time : Tick → Bool
 is_in_time t = nat_le t.0 4000
 

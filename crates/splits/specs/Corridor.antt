@@ -10,8 +10,9 @@ use Rattle.motion.specs.declared.trip.Trip.{Trip}
 use Rattle.motion.specs.declared.ban.Ban.{Ban}
 use Rattle.motion.specs.declared.ban.Ban.TheVariants.{Stand}
 use Rattle.splits.specs.declared.corridor.passage.Passage.{Passage}
-use Rattle.splits.specs.declared.corridor.passage.Through.{Through}
+use Rattle.splits.specs.declared.corridor.passage.CartPassage.{CartPassage}
 
+-- place number i is neither of the two ends, 0 and k
 abbrev pub Inner : ℕ → ℕ → Type 0
 Inner k i = (1 ≤ i) × (i < k)
 
@@ -33,25 +34,29 @@ pub record WalkWithout (f : Floor) (trips : List Trip) (bans : List Ban) (a from
 
 -- up to its tick the cart cannot be at the last place without the move from the place before it,
 -- and the other cannot be at the first place so early that it could be through before that tick
-pub record Passes (f : Floor) (trips : List Trip) (bans : List Ban) (w : Through) : Type 0 where
+pub record Passes (f : Floor) (trips : List Trip) (bans : List Ban) (w : CartPassage) : Type 0 where
   pub only : (u : ℕ) → u ≤ w.tick.0 → WalkWithout f trips bans w.cart.0 w.near.0 w.last.0 u w.last.0 → ⊥
   pub late : (u : ℕ) → u + w.steps < w.tick.0 → Walk f trips bans w.other.0 u w.first.0 → ⊥
 
+-- the place of a number
 abbrev pub place : ℕ → Place
 place p = record { 0 = p }
 
+-- the tick of a number
 abbrev pub tick : ℕ → Tick
 tick t = record { 0 = t }
 
 -- a from c 0 to c k by tick m, and b from c k to c 0 by tick n
-abbrev pub forth : Passage → (ℕ → ℕ) → Through
+abbrev pub forth : Passage → (ℕ → ℕ) → CartPassage
 forth o c = record { cart = o.a; other = o.b; first = place (c 0); near = place (c (pred o.k)); last = place (c o.k); steps = o.k; tick = o.m }
 
-abbrev pub back : Passage → (ℕ → ℕ) → Through
+-- b from c k to c 0 by tick n
+abbrev pub back : Passage → (ℕ → ℕ) → CartPassage
 back o c = record { cart = o.b; other = o.a; first = place (c o.k); near = place (c 1); last = place (c 0); steps = o.k; tick = o.n }
 
--- what the split asks of the places c
-pub record Lies (f : Floor) (trips : List Trip) (bans : List Ban) (o : Passage) (c : ℕ → ℕ) : Type 0 where
+-- what the split asks of the places c: they are a corridor from p by q, of at most 63 steps, on which neither cart
+-- starts but at an end, and through which each can only go, one each way
+pub record CorridorFor (f : Floor) (trips : List Trip) (bans : List Ban) (o : Passage) (c : ℕ → ℕ) : Type 0 where
   pub from : c 0 ≡ o.p.0
   pub by : c 1 ≡ o.q.0
   pub short : o.k ≤ 63

@@ -8,15 +8,19 @@ use Rattle.floor.specs.declared.Tick.{Tick}
 abbrev pub byte : List ℕ → ℕ → ℕ
 byte ops i = slice_index ops i
 
+-- a number of two bytes
 abbrev pub word : List ℕ → ℕ → ℕ
 word ops i = byte ops i * 256 + byte ops (i + 1)
 
+-- the cart whose number is byte i
 abbrev pub cart_in : List ℕ → ℕ → Cart
 cart_in ops i = record { 0 = byte ops i }
 
+-- the place whose number is bytes i and i + 1
 abbrev pub place_in : List ℕ → ℕ → Place
 place_in ops i = record { 0 = word ops i }
 
+-- the tick whose number is bytes i and i + 1
 abbrev pub tick_in : List ℕ → ℕ → Tick
 tick_in ops i = record { 0 = word ops i }
 

@@ -19,6 +19,7 @@ pub record Rules : Type 0 where
   pub width : ℕ → List ℕ → Option ℕ
   pub sides : Floor → List Trip → List Ban → ℕ → List ℕ → Sides
 
+-- no split names a tick above 4,000
 abbrev pub InTime : ℕ → Type 0
 InTime t = t ≤ 4000
 
@@ -37,10 +38,15 @@ Covered f trips bans left right = (s : RouteSet f trips) → ConflictFree s → 
 abbrev pub Reserved : ℕ → Type 0
 Reserved l = (l ≡ 79) ⊎ ((l ≡ 67) ⊎ ((l ≡ 82) ⊎ ((l ≡ 88) ⊎ (l ≡ 90))))
 
+-- what every split rule shows of its rules
 pub record LawfulRules (r : Rules) : Type 0 where
+  -- no letter that a plan uses otherwise is known
   pub fresh : (l : ℕ) → r.knows l ≡ true → Reserved l → ⊥
+  -- the operands are among the bytes
   pub fits : (l : ℕ) (bytes : List ℕ) (n : ℕ) → r.width l bytes ≡ Some n → n ≤ length bytes
+  -- both bans name carts and places of the check, and ticks up to 4,000
   pub names : (f : Floor) (trips : List Trip) (bans : List Ban) (l : ℕ) (ops : List ℕ) (left right : Ban) → Lawful f →
       r.sides f trips bans l ops ≡ Ok (left, right) → Names f trips left × Names f trips right
+  -- no conflict-free set that keeps the branch's bans is lost
   pub covers : (f : Floor) (trips : List Trip) (bans : List Ban) (l : ℕ) (ops : List ℕ) (left right : Ban) → Lawful f →
       r.sides f trips bans l ops ≡ Ok (left, right) → Covered f trips bans left right

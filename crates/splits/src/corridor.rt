@@ -1,5 +1,5 @@
-ghost use Rattle.splits.specs.CorridorRule.{corridor_rules};
-ghost use Rattle.splits.specs.CorridorRules.{corridor_lawful};
+ghost use Rattle.splits.specs.CorridorTests.{corridor_rules};
+ghost use Rattle.splits.specs.CorridorLemmas.{corridor_lawful};
 
 use crate::conditions::{check_place, check_tick, check_two_carts, ensure};
 use crate::operands::of_width;
@@ -45,7 +45,7 @@ impl SplitRule for Corridor {
         check_tick(o.m)?;
         check_tick(o.n)?;
         let chain = Chain::led(branch.map, o).ok_or(SplitRefusal::Unlawful)?;
-        ensure(chain.is_lying(work, branch), SplitRefusal::Unlawful)?;
+        ensure(chain.is_corridor_for(work, branch), SplitRefusal::Unlawful)?;
         Ok(chain.bans())
     }
 }

@@ -2,7 +2,7 @@ ghost use Rattle.std.specs.Prelude.{◌≡◌, ◌&&◌, not, nat_le};
 ghost use Rattle.floor.specs.Checks.{refuse};
 ghost use Rattle.splits.specs.Conditions.{is_in_time};
 ghost use Rattle.splits.specs.Edge.{crossing, edge_rules};
-ghost use Rattle.splits.specs.VertexEdgeTarget.{edge_lawful};
+ghost use Rattle.splits.specs.VertexEdgeTargetLemmas.{edge_lawful};
 ghost use Rattle.splits.specs.declared.refusal.SplitRefusal.TheVariants.{BadTick};
 
 use crate::conditions::{check_place, check_tick, check_two_carts, ensure};
@@ -27,7 +27,6 @@ pub struct Crossing {
     pub tick: Tick,
 }
 
-// No `From`: bytes mean this only behind the letter.
 fn read(operands: &[u8]) -> Crossing
     ensures { result ≡ crossing operands.now }
 {

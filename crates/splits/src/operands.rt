@@ -1,5 +1,4 @@
-// The numbers among the operands of a letter, by functions of two parameters: a type around the bytes would be made
-// anew in each rule.
+// The numbers among the operands of a letter.
 ghost use Rattle.std.specs.Prelude.{◌≡◌};
 ghost use Rattle.splits.specs.Operands.{byte, word, cart_in, place_in, tick_in, of_width};
 

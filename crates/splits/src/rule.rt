@@ -6,8 +6,7 @@ use floor::FloorMap;
 use motion::Ban;
 use search::{Branch, Workspace};
 
-// What can be asked of split rules. Asking alters nothing: every question takes the rules by `&`. A rule of one letter
-// has its letter and its width in a line each: a trait with the two as constants would be longer than what it saves.
+// What can be asked of split rules. Asking alters nothing: every question takes the rules by `&`.
 pub trait SplitRule {
     // what the rules mean
     ghost rules: { Self → Rules };

@@ -1,6 +1,6 @@
 ghost use Rattle.std.specs.Prelude.{◌≡◌};
 ghost use Rattle.splits.specs.Target.{arrival, target_rules};
-ghost use Rattle.splits.specs.VertexEdgeTarget.{target_lawful};
+ghost use Rattle.splits.specs.VertexEdgeTargetLemmas.{target_lawful};
 
 use crate::conditions::{check_cart, check_tick};
 use crate::operands::{cart_in, of_width, tick_in};
@@ -10,18 +10,17 @@ use floor::{Cart, FloorMap, Tick};
 use motion::Ban;
 use search::{Branch, Workspace};
 
-// Letter `T`: a cart's length is above a tick, or it is home by then and keeps its target to itself.
+// Letter `T`: a cart's length is more than a tick, or at most that and no other cart is at its target from then on.
 #[derive(Clone, Copy)]
 pub struct Target;
 
-// A cart home by a tick, or not.
+// A cart, and the tick that its length is compared with.
 #[derive(Clone, Copy)]
 pub struct Arrival {
     pub cart: Cart,
     pub tick: Tick,
 }
 
-// No `From`: bytes mean this only behind the letter.
 fn read(operands: &[u8]) -> Arrival
     ensures { result ≡ arrival operands.now }
 {

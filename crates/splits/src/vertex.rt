@@ -1,6 +1,6 @@
 ghost use Rattle.std.specs.Prelude.{◌≡◌};
 ghost use Rattle.splits.specs.Vertex.{meeting, vertex_rules};
-ghost use Rattle.splits.specs.VertexEdgeTarget.{vertex_lawful};
+ghost use Rattle.splits.specs.VertexEdgeTargetLemmas.{vertex_lawful};
 
 use crate::conditions::{check_place, check_tick, check_two_carts};
 use crate::operands::{cart_in, of_width, place_in, tick_in};
@@ -23,7 +23,6 @@ pub struct Meeting {
     pub tick: Tick,
 }
 
-// No `From`: bytes mean this only behind the letter.
 fn read(operands: &[u8]) -> Meeting
     ensures { result ≡ meeting operands.now }
 {

@@ -1,6 +1,6 @@
 // What the operands of `K` name.
 ghost use Rattle.std.specs.Prelude.{◌≡◌};
-ghost use Rattle.splits.specs.CorridorRule.{passage};
+ghost use Rattle.splits.specs.CorridorTests.{passage};
 
 use crate::operands::{byte_in, cart_in, place_in, tick_in};
 use floor::{Cart, Place, Tick};
@@ -21,7 +21,7 @@ pub struct Passage {
 // A cart on its way through, from the first place to the last, which it enters from the near one, by the tick; the
 // other cart comes the other way.
 #[derive(Clone, Copy)]
-pub struct Through {
+pub struct CartPassage {
     pub cart: Cart,
     pub other: Cart,
     pub first: Place,
@@ -31,7 +31,6 @@ pub struct Through {
     pub tick: Tick,
 }
 
-// No `From`: bytes mean this only behind the letter.
 pub fn read(operands: &[u8]) -> Passage
     ensures { result ≡ passage operands.now }
 {

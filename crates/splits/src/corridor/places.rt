@@ -4,9 +4,9 @@ ghost use Rattle.floor.specs.Tests.{every_below};
 ghost use Rattle.floor.specs.Numbers.{numbers};
 ghost use Rattle.motion.specs.declared.ban.Ban.TheVariants.{Stand};
 ghost use Rattle.splits.specs.Corridor.{forth, back, corridor_bans, tick};
-ghost use Rattle.splits.specs.CorridorRule.{onward, along, listed_at, is_narrow, all_differ, is_corridor, are_outside, is_lying};
+ghost use Rattle.splits.specs.CorridorTests.{onward, along, listed_at, is_narrow, all_differ, is_corridor, are_outside, is_corridor_for};
 
-use crate::corridor::passage::{Passage, Through};
+use crate::corridor::passage::{CartPassage, Passage};
 use floor::{FloorMap, Place, Tick, is_joined, neighbours_of};
 use motion::{Ban, Trip};
 use search::{Branch, Workspace};
@@ -108,10 +108,10 @@ impl Chain {
             && self.is_outside(trips[usize::from(self.passage.b)])
     }
 
-    // Whether they are a corridor through which the two carts can go as the split asks.
-    pub fn is_lying<M: FloorMap>(&self, work: &mut Workspace, branch: &Branch<M>) -> bool
+    // Whether they are a corridor as the split asks: neither cart starts within it, and each can only go through.
+    pub fn is_corridor_for<M: FloorMap>(&self, work: &mut Workspace, branch: &Branch<M>) -> bool
         requires { (self.now.passage.a.0 < length branch.now.trips.now) × (self.now.passage.b.0 < length branch.now.trips.now) }
-        ensures { result ≡ is_lying (M.FloorMap.floor branch.now.map.now) branch.now.trips.now branch.now.bans.now self.now.passage (listed_at (numbers self.now.places)) }
+        ensures { result ≡ is_corridor_for (M.FloorMap.floor branch.now.map.now) branch.now.trips.now branch.now.bans.now self.now.passage (listed_at (numbers self.now.places)) }
     {
         self.is_corridor(branch.map)
             && self.are_outside(branch.trips)
@@ -119,10 +119,10 @@ impl Chain {
     }
 
     // Cart `a` on its way.
-    pub fn forth(&self) -> Through
+    pub fn forth(&self) -> CartPassage
         ensures { result ≡ forth self.now.passage (listed_at (numbers self.now.places)) }
     {
-        Through {
+        CartPassage {
             cart: self.passage.a,
             other: self.passage.b,
             first: self.places[0],
@@ -134,10 +134,10 @@ impl Chain {
     }
 
     // Cart `b` on its way.
-    pub fn back(&self) -> Through
+    pub fn back(&self) -> CartPassage
         ensures { result ≡ back self.now.passage (listed_at (numbers self.now.places)) }
     {
-        Through {
+        CartPassage {
             cart: self.passage.b,
             other: self.passage.a,
             first: self.places[self.end()],
@@ -152,12 +152,12 @@ impl Chain {
     pub fn bans(&self) -> (Ban, Ban)
         ensures { result ≡ corridor_bans self.now.passage (listed_at (numbers self.now.places)) }
     {
-        (until(self.forth()), until(self.back()))
+        (last_place_ban(self.forth()), last_place_ban(self.back()))
     }
 }
 
-// The cart not at its last place by the tick. Made here alone, so it is no maker of `Ban`.
-fn until(w: Through) -> Ban
+// The cart is not at its last place by the tick.
+fn last_place_ban(w: CartPassage) -> Ban
     ensures { result ≡ Stand w.cart w.last (tick 0) w.tick }
 {
     Ban::Stand {

@@ -9,8 +9,8 @@ pub sum-ends-requires-clause-fits : goal.sum-ends-requires-clause-fits
 sum-ends-requires-clause-fits g c =
     let f = g.M.FloorMap.floor c.args.map.now in
     let law = g.met.M.FloorMap.lawful c.args.map.now in
-    let most = law.most in
-    let all = total_most (λ p. length (f.next p)) 8 law.few f.count in
+    let most = law.at_most_1024 in
+    let all = total_most (λ p. length (f.next p)) 8 law.at_most_8_neighbours f.count in
     let is = sum_below (λ p. length (f.next p)) f.count in
     fits_from_yields_list c.map.result (2 ^ 64) (YieldsList-from_map _ (λ p. length (f.next p)) (YieldsList-from_range 0 c.places.result f.count (cc) (omega arith)) c.map.ensures.closure (λ x r q k. search rules)) (omega arith)
 

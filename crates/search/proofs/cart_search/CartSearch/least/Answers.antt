@@ -4,8 +4,8 @@ use Rattle.search.specs.Least.{possible}
 use Rattle.search.proofs.Firsts.{first_found}
 use Rattle.search.proofs.cart_search.CartSearch.least.Goals as goal
 
-pub returns-then-starts_home : goal.returns-then-starts_home
-returns-then-starts_home g c =
+pub returns-then-starts_at_target : goal.returns-then-starts_at_target
+returns-then-starts_at_target g c =
     let s = c.args.self.now in
     let can = possible (g.M.FloorMap.floor s.map.now) s.trips.now (listed s.bans) s.cart in
     let here : can 0 ≡ true = search rules in

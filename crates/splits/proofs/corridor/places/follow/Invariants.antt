@@ -1,5 +1,5 @@
 use Rattle.std.proofs.Common.{◌≡◌, length}
-use Rattle.splits.specs.CorridorRule.{along}
+use Rattle.splits.specs.CorridorTests.{along}
 use Rattle.splits.proofs.Listing.{written_and_left}
 use Rattle.splits.proofs.corridor.places.follow.Given as goal
 

@@ -39,4 +39,4 @@ module _ (f : Floor) (trips : List Trip) (bans : List Ban) where
     where
       go : Dec (t.0 < s.len a.0) → Keeps s (Late a t) ⊎ Keeps s (By a t)
       go (yes late) = inl λ i below same. rw (← same) late
-      go (no early) = inr λ i below. (λ same. rw (← same) (omega arith), λ other u from there. free a.0 i on below other (u, inl ((s.route a.0 on).home u (omega arith) ∙ sym there)))
+      go (no early) = inr λ i below. (λ same. rw (← same) (omega arith), λ other u from there. free a.0 i on below other (u, inl ((s.route a.0 on).arrived u (omega arith) ∙ sym there)))

@@ -6,16 +6,16 @@ use Rattle.floor.specs.Floor.{Floor}
 use Rattle.floor.proofs.Deciding.{decides_leb, decides_yes}
 use Rattle.floor.proofs.Neighbours.{decides_joined}
 use Rattle.motion.specs.declared.trip.Trip.{Trip}
-use Rattle.splits.specs.Edge.{crossing, edge_sides, edge_rules, EdgeTells}
+use Rattle.splits.specs.Edge.{crossing, edge_letter, edge_sides, edge_rules, EdgeTells}
 use Rattle.splits.specs.Rules.{LawfulRules}
-use Rattle.splits.specs.Target.{arrival, target_sides, target_rules, TargetTells}
-use Rattle.splits.specs.Vertex.{meeting, vertex_sides, vertex_rules, VertexTells}
+use Rattle.splits.specs.Target.{arrival, target_letter, target_sides, target_rules, TargetTells}
+use Rattle.splits.specs.Vertex.{meeting, vertex_letter, vertex_sides, vertex_rules, VertexTells}
 use Rattle.splits.specs.declared.edge.Crossing.{Crossing}
 use Rattle.splits.specs.declared.target.Arrival.{Arrival}
 use Rattle.splits.specs.declared.vertex.Meeting.{Meeting}
-use Rattle.splits.specs.Covers.{vertex_covers, edge_covers, target_covers}
-use Rattle.splits.specs.Judging.{decides_two, decides_in_time, judged_tells}
-use Rattle.splits.specs.Lettered.{LawfulSides, lettered_lawful}
+use Rattle.splits.specs.CoversLemmas.{vertex_covers, edge_covers, target_covers}
+use Rattle.splits.specs.JudgingLemmas.{decides_two, decides_in_time, judged_tells}
+use Rattle.splits.specs.LetteredLemmas.{LawfulSides, lettered_lawful}
 
 pub vertex_tells : (f : Floor) (trips : List Trip) (v : Meeting) → VertexTells f trips v (vertex_sides f trips v)
 vertex_tells f trips v = judged_tells _ _ _ _ _
@@ -35,7 +35,7 @@ target_tells trips h = judged_tells _ _ _ _ _
 -- below, h is what an answer with two sides says: of the carts, the places and the ticks, and last which sides they are
 
 pub vertex_lawful : LawfulRules vertex_rules
-vertex_lawful = lettered_lawful 86 6 (λ f trips bans ops. vertex_sides f trips (meeting ops)) (λ f trips bans ops. VertexTells f trips (meeting ops)) (λ reserved. omega arith)
+vertex_lawful = lettered_lawful vertex_letter 6 (λ f trips bans ops. vertex_sides f trips (meeting ops)) (λ f trips bans ops. VertexTells f trips (meeting ops)) (λ reserved. omega arith)
     (λ f _ trips bans ops. vertex_tells f trips (meeting ops))
     (λ f _ trips bans ops given h.
     subst (LawfulSides f trips bans) (sym h.3) (
@@ -45,7 +45,7 @@ vertex_lawful = lettered_lawful 86 6 (λ f trips bans ops. vertex_sides f trips 
     ))
 
 pub edge_lawful : LawfulRules edge_rules
-edge_lawful = lettered_lawful 69 8 (λ f trips bans ops. edge_sides f trips (crossing ops)) (λ f trips bans ops. EdgeTells f trips (crossing ops)) (λ reserved. omega arith)
+edge_lawful = lettered_lawful edge_letter 8 (λ f trips bans ops. edge_sides f trips (crossing ops)) (λ f trips bans ops. EdgeTells f trips (crossing ops)) (λ reserved. omega arith)
     (λ f _ trips bans ops. edge_tells f trips (crossing ops))
     (λ f _ trips bans ops given h.
     subst (LawfulSides f trips bans) (sym h.3.1) (
@@ -55,7 +55,7 @@ edge_lawful = lettered_lawful 69 8 (λ f trips bans ops. edge_sides f trips (cro
     ))
 
 pub target_lawful : LawfulRules target_rules
-target_lawful = lettered_lawful 84 3 (λ f trips bans ops. target_sides trips (arrival ops)) (λ f trips bans ops. TargetTells trips (arrival ops)) (λ reserved. omega arith)
+target_lawful = lettered_lawful target_letter 3 (λ f trips bans ops. target_sides trips (arrival ops)) (λ f trips bans ops. TargetTells trips (arrival ops)) (λ reserved. omega arith)
     (λ f _ trips bans ops. target_tells trips (arrival ops))
     (λ f _ trips bans ops given h.
     subst (LawfulSides f trips bans) (sym h.3) ((h.0, h.2), (h.0, h.2), target_covers f trips bans _ _ h.0))

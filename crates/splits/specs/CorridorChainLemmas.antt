@@ -8,9 +8,9 @@ use Rattle.floor.specs.Tests.{every_below}
 use Rattle.floor.proofs.Deciding.{decides_and3, decides_every_below}
 use Rattle.floor.proofs.Neighbours.{decides_joined}
 use Rattle.splits.specs.Corridor.{Inner, Corridor}
-use Rattle.splits.specs.CorridorRule.{onward, along, listed_at, is_narrow, all_differ, is_corridor, led_to}
+use Rattle.splits.specs.CorridorTests.{onward, along, listed_at, is_narrow, all_differ, is_corridor, led_to}
 use Rattle.splits.specs.declared.corridor.passage.Passage.{Passage}
-use Rattle.splits.specs.Corridors.{beside_inner}
+use Rattle.splits.specs.CorridorInnerLemmas.{beside_inner}
 
 -- each of c 2 to c k is the place gone on to from the two before it
 abbrev pub Onward : Floor → (ℕ → ℕ) → ℕ → Type 0

@@ -5,7 +5,7 @@ use Rattle.floor.specs.Tests.{some}
 use Rattle.motion.specs.declared.trip.Trip.{Trip}
 use Rattle.search.specs.BanLists.{listed}
 use Rattle.search.specs.Rows.{marked, can_go}
-use Rattle.search.proofs.cart_search.CartSearch.comes_home.Goals as goal
+use Rattle.search.proofs.cart_search.CartSearch.enters_target.Goals as goal
 
 pub returns : goal.returns
 returns g c =

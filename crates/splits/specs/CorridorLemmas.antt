@@ -12,16 +12,16 @@ use Rattle.motion.specs.declared.trip.Trip.{Trip}
 use Rattle.search.specs.Rows.{stands_before}
 use Rattle.search.proofs.Standing.{decides_stands_before}
 use Rattle.splits.specs.Conditions.{Two}
-use Rattle.splits.specs.Corridor.{Corridor, Outside, WalkWithout, Passes, Lies, forth, back, corridor_bans}
-use Rattle.splits.specs.CorridorRule.{passage, barred, is_outside, is_passing, is_lying, led_to, corridor_sides, corridor_rules, CorridorTells}
+use Rattle.splits.specs.Corridor.{Corridor, Outside, WalkWithout, Passes, CorridorFor, forth, back, corridor_bans}
+use Rattle.splits.specs.CorridorTests.{passage, last_move_ban, is_outside, is_passing, is_corridor_for, led_to, corridor_sides, corridor_letter, corridor_rules, CorridorTells}
 use Rattle.splits.specs.Rules.{LawfulRules}
 use Rattle.splits.specs.declared.corridor.passage.Passage.{Passage}
-use Rattle.splits.specs.declared.corridor.passage.Through.{Through}
-use Rattle.splits.specs.Chains.{led_onward, same_onward, corridor_onward, decides_inner, decides_corridor}
-use Rattle.splits.specs.Corridors.{corridor_covers}
-use Rattle.splits.specs.Judging.{decides_two, decides_in_time, judged_tells_in_turn}
-use Rattle.splits.specs.Lettered.{LawfulSides, lettered_lawful}
-use Rattle.splits.specs.Walks.{walks_under_the_ban}
+use Rattle.splits.specs.declared.corridor.passage.CartPassage.{CartPassage}
+use Rattle.splits.specs.CorridorChainLemmas.{led_onward, same_onward, corridor_onward, decides_inner, decides_corridor}
+use Rattle.splits.specs.CorridorCoversLemmas.{corridor_covers}
+use Rattle.splits.specs.JudgingLemmas.{decides_two, decides_in_time, judged_tells_in_turn}
+use Rattle.splits.specs.LetteredLemmas.{LawfulSides, lettered_lawful}
+use Rattle.splits.specs.WalksLemmas.{walks_under_the_ban}
 
 -- the places of a corridor are on the floor
 on_floor : (f : Floor) → Lawful f → (c : ℕ → ℕ) (k : ℕ) → Corridor f c k → (i : ℕ) → i ≤ k → c i < f.count
@@ -41,21 +41,21 @@ module _ (f : Floor) (law : Lawful f) (trips : List Trip) where
       Decides-like _ (λ h u lt walk. h (u, lt, (there, on, walk))) (λ h stands. h stands.0 stands.1 stands.2.2) (Decides-not _ (decides_stands_before f trips bans a law n p))
 
   -- the search tells of carts that are there and of places on the floor alone, so that is asked
-  decides_passing : (bans : List Ban) (w : Through) → w.cart.0 < length trips → w.other.0 < length trips → w.first.0 < f.count → w.last.0 < f.count →
+  decides_passing : (bans : List Ban) (w : CartPassage) → w.cart.0 < length trips → w.other.0 < length trips → w.first.0 < f.count → w.last.0 < f.count →
       Decides (is_passing f trips bans w) (Passes f trips bans w)
-  decides_passing bans w there other-there first_on last_on = Decides-like _
+  decides_passing bans w there other_there first_on last_on = Decides-like _
       (λ h. record { only = λ u le walk. h.0 u (omega arith) ((without u le).1 walk); late = λ u lt. h.1 u (omega arith) })
       (λ h. (λ u lt walk. h.only u (omega arith) ((without u (omega arith)).0 walk), λ u lt. h.late u (omega arith)))
-      (Decides-and _ _ (decides_never_before (barred w ∷ bans) w.cart.0 (w.tick.0 + 1) w.last.0 there last_on)
-      (decides_never_before bans w.other.0 (w.tick.0 - w.steps) w.first.0 other-there first_on))
+      (Decides-and _ _ (decides_never_before (last_move_ban w ∷ bans) w.cart.0 (w.tick.0 + 1) w.last.0 there last_on)
+      (decides_never_before bans w.other.0 (w.tick.0 - w.steps) w.first.0 other_there first_on))
     where
-      without : (u : ℕ) → u ≤ w.tick.0 → Walk f trips (barred w ∷ bans) w.cart.0 u w.last.0 ↔ WalkWithout f trips bans w.cart.0 w.near.0 w.last.0 u w.last.0
+      without : (u : ℕ) → u ≤ w.tick.0 → Walk f trips (last_move_ban w ∷ bans) w.cart.0 u w.last.0 ↔ WalkWithout f trips bans w.cart.0 w.near.0 w.last.0 u w.last.0
       without u = walks_under_the_ban f trips bans w.cart w.near w.last w.tick u w.last.0
 
   module _ (bans : List Ban) (o : Passage) where
     -- each test may count on those before it: that the places are on the floor is known once they are a corridor
-    decides_lying : Two trips o.a o.b → Decides (is_lying f trips bans o (led_to f o)) (Lies f trips bans o (led_to f o))
-    decides_lying two = Decides-like _
+    decides_corridor_for : Two trips o.a o.b → Decides (is_corridor_for f trips bans o (led_to f o)) (CorridorFor f trips bans o (led_to f o))
+    decides_corridor_for two = Decides-like _
         (λ h. record {
           from = refl;
           by = refl;
@@ -90,27 +90,27 @@ module _ (f : Floor) (trips : List Trip) (bans : List Ban) (o : Passage) (c d : 
   outside_same : (a : Cart) → Outside trips a c o.k → Outside trips a d o.k
   outside_same a outside i inner e = outside i inner (e ∙ sym (same i (omega arith)))
 
-  lies_same : Lies f trips bans o c → Lies f trips bans o d
-  lies_same lies =
-      let first-same = same 0 (omega arith) in
-      let second-same = same 1 lies.way.some in
-      let Near-same = same (pred o.k) (omega arith) in
-      let last-same = same o.k (omega arith) in
+  corridor_for_same : CorridorFor f trips bans o c → CorridorFor f trips bans o d
+  corridor_for_same asked =
+      let first_same = same 0 (omega arith) in
+      let second_same = same 1 asked.way.some in
+      let near_same = same (pred o.k) (omega arith) in
+      let last_same = same o.k (omega arith) in
       record {
-        from = sym first-same ∙ lies.from;
-        by = sym second-same ∙ lies.by;
-        short = lies.short;
-        way = corridor_same lies.way;
-        a_outside = outside_same o.a lies.a_outside;
-        b_outside = outside_same o.b lies.b_outside;
-        a_passes = subst (Passes f trips bans) (cc) lies.a_passes;
-        b_passes = subst (Passes f trips bans) (cc) lies.b_passes;
+        from = sym first_same ∙ asked.from;
+        by = sym second_same ∙ asked.by;
+        short = asked.short;
+        way = corridor_same asked.way;
+        a_outside = outside_same o.a asked.a_outside;
+        b_outside = outside_same o.b asked.b_outside;
+        a_passes = subst (Passes f trips bans) (cc) asked.a_passes;
+        b_passes = subst (Passes f trips bans) (cc) asked.b_passes;
       }
 
 -- so any places that lie as the split asks are those that the operands lead to
-led_only : (f : Floor) → Lawful f → (trips : List Trip) (bans : List Ban) (o : Passage) (c : ℕ → ℕ) → Lies f trips bans o c → (i : ℕ) → i ≤ o.k → c i ≡ led_to f o i
-led_only f law trips bans o c lies =
-    same_onward f c (led_to f o) o.k (corridor_onward f law c o.k lies.way) (led_onward f o lies.short) lies.from lies.by
+led_only : (f : Floor) → Lawful f → (trips : List Trip) (bans : List Ban) (o : Passage) (c : ℕ → ℕ) → CorridorFor f trips bans o c → (i : ℕ) → i ≤ o.k → c i ≡ led_to f o i
+led_only f law trips bans o c asked =
+    same_onward f c (led_to f o) o.k (corridor_onward f law c o.k asked.way) (led_onward f o asked.short) asked.from asked.by
 
 -- ---- the answers
 
@@ -119,25 +119,25 @@ corridor_tells f law trips bans o =
     judged_tells_in_turn _ _ _ _ (corridor_bans o (led_to f o)) (decides_two trips o.a o.b)
     (Decides-and _ _ (Decides-ltb o.p.0 f.count) (Decides-ltb o.q.0 f.count))
     (Decides-and _ _ (decides_in_time o.m) (decides_in_time o.n))
-    (λ two places ticks. Decides-like _ (λ lies. (led_to f o, lies, refl)) (λ own. (own_led own).1) (decides_lying f law trips bans o two))
+    (λ two places ticks. Decides-like _ (λ asked. (led_to f o, asked, refl)) (λ own. (own_led own).1) (decides_corridor_for f law trips bans o two))
     (λ other. own_led)
   where
     Own : Ban × Ban → Type 0
-    Own sides = (c : ℕ → ℕ) × Lies f trips bans o c × (sides ≡ corridor_bans o c)
+    Own sides = (c : ℕ → ℕ) × CorridorFor f trips bans o c × (sides ≡ corridor_bans o c)
 
     own_led : {sides : Ban × Ban} → Own sides → Own (corridor_bans o (led_to f o))
-    own_led own = (led_to f o, lies_same f trips bans o own.0 (led_to f o) (led_only f law trips bans o own.0 own.1) own.1, refl)
+    own_led own = (led_to f o, corridor_for_same f trips bans o own.0 (led_to f o) (led_only f law trips bans o own.0 own.1) own.1, refl)
 
 -- the sides that are given keep what the laws ask
 told_lawful : (f : Floor) → Lawful f → (trips : List Trip) (bans : List Ban) (o : Passage) (sides : Ban × Ban) → CorridorTells f trips bans o (Ok sides) → LawfulSides f trips bans sides
-told_lawful f law trips bans o sides (two, places, ticks, (c, lies, is)) =
-    let on = on_floor f law c o.k lies.way in
+told_lawful f law trips bans o sides (two, places, ticks, (c, asked, is)) =
+    let on = on_floor f law c o.k asked.way in
     subst (LawfulSides f trips bans) (sym is) (
       (two.0, on o.k (omega arith), omega arith, ticks.0),
       (two.1, on 0 (omega arith), omega arith, ticks.1),
-      corridor_covers f trips bans o c law two lies,
+      corridor_covers f trips bans o c law two asked,
     )
 
 pub corridor_lawful : LawfulRules corridor_rules
-corridor_lawful = lettered_lawful 75 11 (λ f trips bans ops. corridor_sides f trips bans (passage ops)) (λ f trips bans ops. CorridorTells f trips bans (passage ops)) (λ reserved. omega arith)
+corridor_lawful = lettered_lawful corridor_letter 11 (λ f trips bans ops. corridor_sides f trips bans (passage ops)) (λ f trips bans ops. CorridorTells f trips bans (passage ops)) (λ reserved. omega arith)
     (λ f law trips bans ops. corridor_tells f law trips bans (passage ops)) (λ f law trips bans ops. told_lawful f law trips bans (passage ops))

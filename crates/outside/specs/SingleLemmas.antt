@@ -8,9 +8,9 @@ use Rattle.motion.specs.Bans.{Keeps}
 use Rattle.motion.specs.declared.trip.Trip.{Trip}
 use Rattle.motion.specs.declared.ban.Ban.{Ban}
 use Rattle.splits.specs.Rules.{Covered, LawfulRules}
-use Rattle.splits.specs.Judging.{decides_in_time, judged_tells}
-use Rattle.splits.specs.Lettered.{LawfulSides, lettered_lawful}
-use Rattle.outside.specs.Single.{doubling, single_bans, single_sides, single_rules, SingleTells}
+use Rattle.splits.specs.JudgingLemmas.{decides_in_time, judged_tells}
+use Rattle.splits.specs.LetteredLemmas.{LawfulSides, lettered_lawful}
+use Rattle.outside.specs.Single.{doubling, single_bans, single_letter, single_sides, single_rules, SingleTells}
 use Rattle.outside.specs.declared.single.Doubling.{Doubling}
 
 single_tells : (f : Floor) (trips : List Trip) (d : Doubling) → SingleTells f trips d (single_sides f trips d)
@@ -29,7 +29,7 @@ single_covers f trips bans d apart s free keeps = go (ℕ_discrete (s.at d.cart.
     go (yes there) = inr λ i below same t w at. let now : t ≡ d.tick.0 = omega arith in apart (cc)
 
 pub single_lawful : LawfulRules single_rules
-single_lawful = lettered_lawful 83 4 (λ f trips bans ops. single_sides f trips (doubling ops)) (λ f trips bans ops. SingleTells f trips (doubling ops)) (λ reserved. omega arith)
+single_lawful = lettered_lawful single_letter 4 (λ f trips bans ops. single_sides f trips (doubling ops)) (λ f trips bans ops. SingleTells f trips (doubling ops)) (λ reserved. omega arith)
     (λ f _ trips bans ops. single_tells f trips (doubling ops))
     (λ f _ trips bans ops given h.
     subst (LawfulSides f trips bans) (sym h.3.1) ((h.0, h.1.0, h.2, h.2), (h.0, h.1.1, h.2, h.2), single_covers f trips bans (doubling ops) h.3.0))

@@ -41,7 +41,7 @@ pub record Meet (x y : ℕ → ℕ) (lo hi : ℕ) : Type 0 where
   pub at : ℕ
   pub from : lo ≤ at
   pub to : at ≤ hi
-  pub so : (x at ≡ y at) ⊎ ((at < hi) × (x at ≡ y (suc at)) × (x (suc at) ≡ y at))
+  pub how : (x at ≡ y at) ⊎ ((at < hi) × (x at ≡ y (suc at)) × (x (suc at) ≡ y at))
 
 -- Where x begins at most y and ends at least y, they meet: at the first tick from lo on at which x is at least y, or in
 -- the step to it.
@@ -52,13 +52,13 @@ meeting x y lo hi some sx sy low high = by_first (first Passed (λ t. Decides-an
     Passed t = (lo ≤ t) × (y t ≤ x t)
 
     at_lo : y lo ≤ x lo → Meet x y lo hi
-    at_lo passed = record { at = lo; from = omega arith; to = some; so = inl (omega arith) }
+    at_lo passed = record { at = lo; from = omega arith; to = some; how = inl (omega arith) }
 
     -- x is below y at t, and not a tick later
     in_step : (t : ℕ) → lo ≤ t → t < hi → (y t ≤ x t → ⊥) → y (suc t) ≤ x (suc t) → Meet x y lo hi
     in_step t from to below passed = ⊎_elim
-        (λ e. record { at = suc t; from = omega arith; to = to; so = inl e })
-        (λ ne. record { at = t; from = from; to = omega arith; so = inr (omega (arith, sx t to from, sy t to from)) })
+        (λ e. record { at = suc t; from = omega arith; to = to; how = inl e })
+        (λ ne. record { at = t; from = from; to = omega arith; how = inr (omega (arith, sx t to from, sy t to from)) })
         (cases_eq (x (suc t)) (y (suc t)))
 
     by_first : FirstOrNever Passed (suc hi) → Meet x y lo hi
