@@ -17,18 +17,13 @@ pub record Lawful (f : Floor) : Type 0 where
   -- it has a place, and at most 1,024
   pub has_a_place : 1 ≤ f.count
   pub at_most_1024 : f.count ≤ 1024
-
   -- no place has more than 8 neighbours
   pub at_most_8_neighbours : (p : ℕ) → length (f.next p) ≤ 8
-
   -- neighbours are places of the floor, and a place off the floor has none
   pub on_floor : (p q : ℕ) → Joined f p q → (p < f.count) × (q < f.count)
-
   -- no place is its own neighbour
   pub not_its_own : (p : ℕ) → Joined f p p → ⊥
-
   -- no place is listed twice among the neighbours of another
   pub once : (p i j : ℕ) → i < length (f.next p) → j < length (f.next p) → slice_index (f.next p) i ≡ slice_index (f.next p) j → i ≡ j
-
   -- q is listed at p exactly where p is listed at q
   pub both_ways : (p q : ℕ) → Joined f p q → Joined f q p

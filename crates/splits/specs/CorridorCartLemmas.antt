@@ -1,5 +1,5 @@
 -- One of the two carts goes all the way through the corridor.
-use Rattle.std.specs.Prelude.{◌≡◌, ℕ, zero, suc, pred, ◌-◌, ◌<◌, ◌≤◌, ◌⊎◌, List, length, ◌≢◌, refl}
+use Rattle.std.specs.Prelude.{◌≡◌, ℕ, zero, suc, pred, ◌-◌, ◌<◌, ◌≤◌, List, length, ◌≢◌, refl}
 use Rattle.std.proofs.Common.{⊎_elim, sym, ap, subst, ◌∙◌, arith}
 use Rattle.std.proofs.lemmas.Bool.{cases_eq, cases_lt}
 use Rattle.floor.specs.Floor.{Floor, Joined, Lawful}
@@ -8,10 +8,10 @@ use Rattle.motion.specs.Routes.{RouteSet}
 use Rattle.motion.specs.declared.ban.Ban.{Ban}
 use Rattle.motion.specs.declared.trip.Trip.{Trip}
 use Rattle.search.proofs.Firsts.{below_suc}
-use Rattle.splits.specs.Corridor.{Corridor, Outside, Passes, CorridorFor, tick, forth, back}
+use Rattle.splits.specs.Corridor.{Corridor, Outside, Passes, CorridorFor, forth, back}
 use Rattle.splits.specs.declared.corridor.passage.Passage.{Passage}
 use Rattle.splits.specs.declared.corridor.passage.CartPassage.{CartPassage}
-use Rattle.splits.specs.TicksLemmas.{First, Never, first}
+use Rattle.splits.specs.TicksLemmas.{First, Never}
 use Rattle.splits.specs.WalksLemmas.{route_walk, route_walk_without}
 use Rattle.splits.specs.CorridorStretchLemmas.{Stretch, stretch_to, stretch_more}
 
