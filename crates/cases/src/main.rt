@@ -1,4 +1,5 @@
-// Runs worked cases of routes, conflicts, least lengths, splits and whole plans, and prints what comes of each.
+// Runs worked cases of routes, conflicts, least lengths, splits and whole plans, and prints what comes of each, and the
+// number and the word of each refusal.
 #![tactic(auto)]
 
 mod lengths;
@@ -6,6 +7,7 @@ mod plans;
 mod routes;
 mod scene;
 mod splitting;
+mod words;
 mod worked;
 
 use worked::worked_cases;
@@ -19,5 +21,6 @@ fn run(rt: &HostRuntime) -> anyhow::Result<()> {
     routes::run(rt)?;
     lengths::run(rt)?;
     splitting::run(rt)?;
-    plans::run(rt)
+    plans::run(rt)?;
+    words::run(rt)
 }

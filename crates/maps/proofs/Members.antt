@@ -4,7 +4,7 @@ use Rattle.std.specs.List.{list_any}
 use Rattle.std.proofs.lemmas.List.{length-map}
 use Rattle.floor.specs.declared.Place.{Place}
 use Rattle.maps.specs.Members.{has}
-use Rattle.maps.specs.Tables.{numbers}
+use Rattle.floor.specs.Numbers.{numbers}
 
 pub has_numbers : (ps : List Place) (q : ℕ) → has q (numbers ps) ≡ list_any (λ p. nat_eq p.0 q) ps
 has_numbers [] q = refl

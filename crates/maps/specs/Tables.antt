@@ -1,11 +1,10 @@
 -- Rows of places and a table of rows, as the lists of numbers that they stand for.
 use Rattle.std.specs.Prelude.{ℕ, List, [], map, slice_index_or}
 use Rattle.arrayvec.specs.ArrayVec.{ArrayVec}
+use Rattle.floor.specs.Numbers.{numbers}
 use Rattle.floor.specs.declared.Place.{Place}
 
-abbrev pub numbers : List Place → List ℕ
-numbers places = map (λ p. p.0) places
-
+-- the places of a row, as their numbers
 abbrev pub listed : ArrayVec Place → List ℕ
 listed r = numbers r.items
 

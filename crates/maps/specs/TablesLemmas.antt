@@ -4,7 +4,8 @@ use Rattle.std.proofs.Common.{inl, inr, ⊎_elim, sym, ap, subst, ◌∙◌, ari
 use Rattle.std.proofs.lemmas.List.{length-map, length-set, length-replicate, get_or-map, get_or_past, get_or-replicate, get_or-set_same, get_or-set_other, map-set, map_push}
 use Rattle.std.proofs.lemmas.Bool.{cases_eq, cases_lt}
 use Rattle.maps.specs.Networks.{partners}
-use Rattle.maps.specs.Tables.{listed, numbers, row_of}
+use Rattle.floor.specs.Numbers.{numbers}
+use Rattle.maps.specs.Tables.{listed, row_of}
 use Rattle.maps.specs.declared.connection.Connection.{Connection}
 use Rattle.arrayvec.specs.ArrayVec.{ArrayVec, array_vec_len}
 use Rattle.floor.specs.declared.Place.{Place}

@@ -10,7 +10,7 @@ use std::fmt::{Display, Formatter};
 // Why a map is refused.
 #[derive(Clone, Copy, PartialEq, Eq, Debug)]
 pub enum MapRefusal {
-    // a heading line of a grid is not as laid down
+    // a line before a grid's rows is wrong
     Headless = 1,
     // a grid's height or width is not 1 to 32
     Gauge = 2,

@@ -1,5 +1,6 @@
 ghost use Rattle.std.specs.Prelude.{◌≡◌};
-ghost use Rattle.maps.specs.Tables.{numbers, row_of};
+ghost use Rattle.floor.specs.Numbers.{numbers};
+ghost use Rattle.maps.specs.Tables.{row_of};
 
 use arrayvec::ArrayVec;
 use floor::Place;

@@ -1,7 +1,7 @@
 ghost use Rattle.std.specs.Prelude.{◌≡◌};
 ghost use Rattle.maps.specs.Signs.{sign_of};
 
-// What a cell's sign says of it: three named cases, as they are laid down, and no Option.
+// What a cell's sign says of it.
 #[derive(Clone, Copy, PartialEq, Eq, Debug)]
 pub enum Sign {
     Free,

@@ -46,7 +46,7 @@ pub record RouteSet (f : Floor) (trips : List Trip) : Type 0 where
 abbrev pub sum_of : {f : Floor} {trips : List Trip} → RouteSet f trips → ℕ
 sum_of {f} {trips} s = total (length trips) s.len
 
--- at one place at one tick, or across one connection in opposite directions in one step
+-- at the same place at some tick, or between the same two places, each the other's way, in some step
 abbrev pub Conflict : (ℕ → ℕ) → (ℕ → ℕ) → Type 0
 Conflict r s = (t : ℕ) × ((r t ≡ s t) ⊎ ((r t ≡ s (suc t)) × (r (suc t) ≡ s t)))
 

@@ -1,4 +1,4 @@
--- Letter E: two carts do not cross one connection in opposite directions in one step.
+-- Letter E: two carts do not change places in one step.
 use Rattle.std.specs.Prelude.{◌≡◌, ℕ, ◌≤◌, ◌&&◌, List, ◌==◌, nat_le}
 use Rattle.floor.specs.Floor.{Floor, Joined}
 use Rattle.floor.specs.Joins.{is_joined}

@@ -23,14 +23,14 @@ pub record Rules : Type 0 where
 abbrev pub InTime : ℕ → Type 0
 InTime t = t ≤ 4000
 
--- the ban names carts and places of the check, and ticks up to 4,000
+-- the carts that the ban names are there, its places are on the floor, and its ticks are in time
 abbrev pub Names : Floor → List Trip → Ban → Type 0
 Names f trips (Stand c p first last) = (c.0 < length trips) × (p.0 < f.count) × InTime first.0 × InTime last.0
 Names f trips (Move c p q first last) = (c.0 < length trips) × (p.0 < f.count) × (q.0 < f.count) × InTime first.0 × InTime last.0
 Names f trips (Late c t) = (c.0 < length trips) × InTime t.0
 Names f trips (By c t) = (c.0 < length trips) × InTime t.0
 
--- every conflict-free set that keeps the bans keeps the left ban or the right ban too
+-- a conflict-free set that keeps the bans also keeps one of the two
 abbrev pub Covered : Floor → List Trip → List Ban → Ban → Ban → Type 0
 Covered f trips bans left right = (s : RouteSet f trips) → ConflictFree s → KeepsAll s bans → Keeps s left ⊎ Keeps s right
 
@@ -44,9 +44,9 @@ pub record LawfulRules (r : Rules) : Type 0 where
   pub fresh : (l : ℕ) → r.knows l ≡ true → Reserved l → ⊥
   -- the operands are among the bytes
   pub fits : (l : ℕ) (bytes : List ℕ) (n : ℕ) → r.width l bytes ≡ Some n → n ≤ length bytes
-  -- both bans name carts and places of the check, and ticks up to 4,000
+  -- both bans name what is there
   pub names : (f : Floor) (trips : List Trip) (bans : List Ban) (l : ℕ) (ops : List ℕ) (left right : Ban) → Lawful f →
       r.sides f trips bans l ops ≡ Ok (left, right) → Names f trips left × Names f trips right
-  -- no conflict-free set that keeps the branch's bans is lost
+  -- no conflict-free set of the branch is lost
   pub covers : (f : Floor) (trips : List Trip) (bans : List Ban) (l : ℕ) (ops : List ℕ) (left right : Ban) → Lawful f →
       r.sides f trips bans l ops ≡ Ok (left, right) → Covered f trips bans left right

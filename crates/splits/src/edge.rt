@@ -13,7 +13,7 @@ use floor::{Cart, FloorMap, Place, Tick, is_joined};
 use motion::Ban;
 use search::{Branch, Workspace};
 
-// Letter `E`: two carts do not cross one connection in opposite directions in one step.
+// Letter `E`: two carts do not change places in one step.
 #[derive(Clone, Copy)]
 pub struct Edge;
 

@@ -1,8 +1,10 @@
-ghost use Rattle.splits.specs.Own.{OwnLetters};
+ghost use Rattle.std.specs.Prelude.{◌≡◌};
+ghost use Rattle.splits.specs.Own.{OwnLetters, own};
 
 use crate::beside::Beside;
 use crate::corridor::Corridor;
 use crate::edge::Edge;
+use crate::rule::SplitRule;
 use crate::target::Target;
 use crate::vertex::Vertex;
 
@@ -10,6 +12,7 @@ use crate::vertex::Vertex;
 pub type OwnRules = Beside<Vertex, Beside<Edge, Beside<Target, Corridor>>>;
 
 pub fn own_rules() -> OwnRules
+    ensures are_our_own { ⟦<OwnRules as SplitRule>⟧.rules result ≡ own }
     ensures answer_as_their_conditions_tell { OwnLetters }
 {
     Beside {

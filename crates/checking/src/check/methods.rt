@@ -18,7 +18,7 @@ use search::{Branch, Workspace};
 use splits::SplitRule;
 use tally::{Foreign, Refusal, Settlement, Standing, Verdict};
 
-// A check with one open branch without bans, and its card.
+// A check at its start, one branch open and nothing banned, and its card.
 pub fn open<'a, M: FloorMap, R: SplitRule>(terms: Terms<'a, M, R>) -> (Check<'a, M, R>, Card)
     ensures starts { tally_in result.0.book ≡ at_start }
     ensures as_given { (result.0.terms ≡ terms.entry) × (result.1.number ≡ terms.entry.card) }

@@ -55,7 +55,7 @@ impl<'a, M: FloorMap, R: SplitRule> Terms<'a, M, R> {
             .all(|trip| on_floor(trip.start) && on_floor(trip.target))
     }
 
-    // Whether no two carts share a start or a target: by number, as each is compared with those before it.
+    // Whether all starts differ, and all targets: by number, as each cart is compared with those before it.
     fn are_apart(&self) -> bool
         ensures { let o = opening_of M.FloorMap.floor R.SplitRule.rules self.now in result ≡ every_below (λ a. every_below (are_apart o a) a) (length self.now.trips.now) }
     {

@@ -1,11 +1,11 @@
 ghost use Rattle.std.specs.Prelude.{◌≡◌};
 ghost use Rattle.maps.specs.GridMaps.{grid_of};
-ghost use Rattle.maps.specs.Made.{Made};
+ghost use Rattle.maps.specs.Made.{Made, RefusalTold};
 ghost use Rattle.maps.specs.Grids.{around, free_at, grid_floor, gridding, GriddingTells, NeighboursAreBeside, Sized};
 ghost use Rattle.maps.specs.GridsLemmas.{grid_lawful};
 ghost use Rattle.maps.specs.GridMapsLemmas.{map_sized};
 ghost use Rattle.maps.specs.Refusals.{refusal_of};
-ghost use Rattle.maps.specs.Tables.{numbers};
+ghost use Rattle.floor.specs.Numbers.{numbers};
 
 use crate::grid::GridMap;
 use crate::grid::cells::Cells;
@@ -24,6 +24,7 @@ impl GridMap {
         free: Vec<bool>,
     ) -> Result<GridMap, MapError>
         ensures made { Made grid_of refusal_of (gridding height width free.items) result }
+        ensures refusal_told { RefusalTold refusal_of (gridding height width free.items) result }
         ensures tells { GriddingTells }
     {
         let cells = Cells::new(height, width, free)?;

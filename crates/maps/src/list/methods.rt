@@ -1,9 +1,9 @@
 ghost use Rattle.std.specs.Prelude.{◌≡◌, IfErr, OnOk};
 ghost use Rattle.maps.specs.ListMaps.{network_of, Changed};
-ghost use Rattle.maps.specs.Made.{Made};
+ghost use Rattle.maps.specs.Made.{Made, RefusalTold};
 ghost use Rattle.maps.specs.Networks.{network_floor, founding, joining, Proper, FoundingTells, JoiningTells, NeighboursAreLinked, partners, with_connection};
 ghost use Rattle.maps.specs.Refusals.{refusal_of};
-ghost use Rattle.maps.specs.Tables.{numbers};
+ghost use Rattle.floor.specs.Numbers.{numbers};
 ghost use Rattle.maps.specs.ListMapsLemmas.{proper_map};
 
 use crate::connection::Connection;
@@ -21,6 +21,7 @@ impl ListMap {
     #[tactic(auto, using(crate::proofs::Founding::founding_tells), unfolding(crate::specs::Networks::founding))]
     pub fn new(heap: Global, places: u16) -> Result<ListMap, MapError>
         ensures made { Made network_of refusal_of (founding places) result }
+        ensures refusal_told { RefusalTold refusal_of (founding places) result }
         ensures tells { FoundingTells }
     {
         if !(1..=1024).contains(&places) {

@@ -4,7 +4,7 @@ use Rattle.std.proofs.lemmas.Bool.Decides.{nat_tests}
 use Rattle.arrayvec.specs.ArrayVec.{ArrayVec}
 use Rattle.floor.specs.declared.Place.{Place}
 use Rattle.maps.specs.NetworksLemmas.{bare_lawful}
-use Rattle.maps.specs.Tables.{numbers}
+use Rattle.floor.specs.Numbers.{numbers}
 use Rattle.maps.specs.TablesLemmas.{row_of_same}
 use Rattle.maps.proofs.list.ListMap.new.Goals as goal
 
