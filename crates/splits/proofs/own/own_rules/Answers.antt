@@ -1,5 +1,6 @@
+use Rattle.std.proofs.Common.{refl}
 use Rattle.splits.proofs.OwnLetters.{own_letters}
 use Rattle.splits.proofs.own.own_rules.Goals as goal
 
 pub returns : goal.returns
-returns c = record { are_our_own = cc; answer_as_their_conditions_tell = own_letters }
+returns c = record { are_our_own = refl; answer_as_their_conditions_tell = own_letters }
