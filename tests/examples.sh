@@ -1,19 +1,68 @@
 #!/usr/bin/env bash
-# Runs `settle` on each folder of examples/, and compares what it prints with the folder's file `expect`.
+# Runs `settle` and `account` on each folder of examples/ and of tests/told/, and on files that are missing or too long,
+# and compares what they print with what they have to: byte for byte, with the line ends.
 set -euo pipefail
 shopt -s nullglob
 unset CDPATH
 top=$(cd -- "$(dirname -- "${BASH_SOURCE[0]}")/.." && pwd)
-"$top/run" settle >/dev/null # a build that fails shows once, and here
+dir=$(mktemp -d)
+trap 'rm -rf "$dir"' EXIT
 count=0 differ=0
-for expect in "$top"/examples/*/expect; do
-    folder=$(dirname -- "$expect")
+
+# What the program prints on the folder's two files, against the text in a file.
+compare() {
+    local program=$1 folder=$2 text=$3
     count=$((count + 1))
-    printed=$("$top/run" "$folder") || printed="status $?"
-    if [ "$printed" != "$(cat -- "$expect")" ]; then
-        echo "$(basename -- "$folder"): printed '$printed', expected '$(cat -- "$expect")'" >&2
+    "$top/run" "$program" "$folder" >"$dir/printed" || echo "status $?" >>"$dir/printed"
+    if ! cmp -s -- "$dir/printed" "$text"; then
+        echo "$program on $(basename -- "$folder"):" >&2
+        diff -- "$text" "$dir/printed" >&2 || true
         differ=$((differ + 1))
     fi
+}
+
+# A folder with the small floor's two files, to be changed.
+small_floor() {
+    rm -rf "$dir/$1"
+    cp -r -- "$top/examples/small-floor" "$dir/$1"
+}
+
+# What `settle` has to print on a folder.
+settles_as() {
+    printf '%s\n' "$2" >"$dir/expected"
+    compare settle "$dir/$1" "$dir/expected"
+}
+
+# The file filled up with a letter to so many bytes.
+fill() {
+    local file=$1 letter=$2 length=$3
+    head -c $((length - $(wc -c <"$file"))) /dev/zero | tr '\0' "$letter" >>"$file"
+}
+
+"$top/run" settle >/dev/null # a build that fails shows once, and here
+"$top/run" account >/dev/null
+for expect in "$top"/examples/*/expect; do
+    compare settle "$(dirname -- "$expect")" "$expect"
 done
-echo "$count examples, $differ differ"
+for told in "$top"/examples/*/told "$top"/tests/told/*/told; do
+    compare account "$(dirname -- "$told")" "$told"
+done
+
+# files that are not there, are no files, or have the longest length or a byte more
+small_floor no-map && rm "$dir/no-map/floor.map"
+settles_as no-map 'unread'
+small_floor no-plan && rm "$dir/no-plan/plan.work"
+settles_as no-plan 'unread'
+small_floor folder-for-a-map && rm "$dir/folder-for-a-map/floor.map" && mkdir "$dir/folder-for-a-map/floor.map"
+settles_as folder-for-a-map 'unread'
+small_floor longest-map && fill "$dir/longest-map/floor.map" X 65536
+settles_as longest-map 'refused map 21 23'
+small_floor map-too-long && fill "$dir/map-too-long/floor.map" X 65537
+settles_as map-too-long 'unread'
+small_floor longest-plan && fill "$dir/longest-plan/plan.work" Z 65536
+settles_as longest-plan 'refused file 23 43'
+small_floor plan-too-long && fill "$dir/plan-too-long/plan.work" Z 65537
+settles_as plan-too-long 'unread'
+
+echo "$count outputs, $differ differ"
 [ "$count" -gt 0 ] && [ "$differ" -eq 0 ]

@@ -62,11 +62,6 @@ module _ {A E : Type 0} (P : A → Type 0) (Q : E → Type 0) where
   unless_tells true e next decides passed refused = passed (decides.0 refl)
   unless_tells false e next decides passed refused = refused (not_from_Decides false decides refl)
 
--- no fault is possible, and no other value
-pub only_ok : {A E : Type 0} (x : Result A E) (a : A) → MatchResult x (λ b. b ≡ a) (λ _. ⊥) → x ≡ Ok a
-only_ok (Ok b) a h = ap Ok h
-only_ok (Err e) a h = absurd h
-
 -- where the outcome tells things that exclude each other, each answer is given exactly when what it tells holds
 module _ {A E : Type 0} (P : A → Type 0) (Q : E → Type 0) where
   pub ok_exactly : (x : Result A E) (a : A) → ((b : A) → P b → P a → b ≡ a) → ((e : E) → Q e → P a → ⊥) → MatchResult x P Q → (x ≡ Ok a) ↔ P a

@@ -55,14 +55,15 @@ fn tell_carts(
     Ok(())
 }
 
-// The least length of each of two carts in a branch, and whether routes of these lengths sum below 6.
+// The least length of each of two carts in a branch, and whether routes of these lengths sum below 6, and below 7.
 fn tell_branch(rt: &HostRuntime, branch: &Branch<AnyMap>) -> anyhow::Result<()> {
     let mut work = Workspace::new(rt.alloc())?;
     for cart in [Cart(0), Cart(1)] {
         tell_length(rt, &mut work, branch, cart)?;
     }
-    let below = branch.cheaper(&mut work, 6);
-    println!(rt; "    some set sums below 6: {below}")?;
+    let below_6 = branch.cheaper(&mut work, 6);
+    let below_7 = branch.cheaper(&mut work, 7);
+    println!(rt; "    some set sums below 6: {below_6}, below 7: {below_7}")?;
     Ok(())
 }
 
