@@ -27,10 +27,10 @@ small_floor() {
     cp -r -- "$top/examples/small-floor" "$dir/$1"
 }
 
-# What `settle` has to print on a folder.
-settles_as() {
-    printf '%s\n' "$2" >"$dir/expected"
-    compare settle "$dir/$1" "$dir/expected"
+# The line that a program has to print on a folder.
+prints() {
+    printf '%s\n' "$3" >"$dir/expected"
+    compare "$1" "$dir/$2" "$dir/expected"
 }
 
 # The file filled up with a letter to so many bytes.
@@ -50,19 +50,21 @@ done
 
 # files that are not there, are no files, or have the longest length or a byte more
 small_floor no-map && rm "$dir/no-map/floor.map"
-settles_as no-map 'unread'
+prints settle no-map 'unread'
+prints account no-map 'unread'
 small_floor no-plan && rm "$dir/no-plan/plan.work"
-settles_as no-plan 'unread'
+prints settle no-plan 'unread'
 small_floor folder-for-a-map && rm "$dir/folder-for-a-map/floor.map" && mkdir "$dir/folder-for-a-map/floor.map"
-settles_as folder-for-a-map 'unread'
+prints settle folder-for-a-map 'unread'
 small_floor longest-map && fill "$dir/longest-map/floor.map" X 65536
-settles_as longest-map 'refused map 21 23'
+prints settle longest-map 'refused map 21 23'
+prints account longest-map 'refused map 21 23 (letter)'
 small_floor map-too-long && fill "$dir/map-too-long/floor.map" X 65537
-settles_as map-too-long 'unread'
+prints settle map-too-long 'unread'
 small_floor longest-plan && fill "$dir/longest-plan/plan.work" Z 65536
-settles_as longest-plan 'refused file 23 43'
+prints settle longest-plan 'refused file 23 43'
 small_floor plan-too-long && fill "$dir/plan-too-long/plan.work" Z 65537
-settles_as plan-too-long 'unread'
+prints settle plan-too-long 'unread'
 
 echo "$count outputs, $differ differ"
 [ "$count" -gt 0 ] && [ "$differ" -eq 0 ]
