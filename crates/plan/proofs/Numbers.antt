@@ -1,8 +1,8 @@
 -- The number of a verdict is small: at most 65 branches are open, and at most 16 carts have routes of at most 255 steps.
-use Rattle.std.proofs.Common.{◌≡◌, ℕ, zero, suc, ◌*◌, ◌≤◌, Bool, true, false, cond, nat_le, ◌==◌, [], List, length, Some, None, Option, unwrap_or, subst, refl, sym, arith}
+use Rattle.std.proofs.Common.{◌≡◌, ℕ, ◌≤◌, Bool, true, false, cond, nat_le, ◌==◌, [], List, length, Some, None, Option, unwrap_or, subst, refl, sym, arith}
 use Rattle.std.proofs.lemmas.List.Elements.{All-contains}
 use Rattle.motion.specs.Listed.{steps}
-use Rattle.motion.specs.Routes.{total}
+use Rattle.search.proofs.Sums.{total_most}
 use Rattle.tally.specs.CallAnswers.{Reached}
 use Rattle.tally.specs.Openings.{Opening, Openable, RouteOf, Sound, carts}
 use Rattle.tally.specs.Standings.{number_in, places_shown, shown_sum, standing, unshown, verdict_of}
@@ -12,10 +12,6 @@ use Rattle.tally.proofs.Finding.{found}
 use Rattle.tally.proofs.Limiting.{within_limits}
 use Rattle.tally.proofs.Opening.{opened_exactly}
 use Rattle.tally.proofs.Showing.{shown_well}
-
-total_most : (f : ℕ → ℕ) → ((a : ℕ) → f a ≤ 255) → (n : ℕ) → total n f ≤ 255 * n
-total_most f most zero = omega arith
-total_most f most (suc n) = let rest = total_most f most n in let last = most n in omega (arith, rest, last)
 
 one_or_none : (b : Bool) → cond b 0 1 ≤ 255
 one_or_none true = omega arith
@@ -41,8 +37,8 @@ module _ (o : Opening) (sound : Sound o) (openable : Openable o) (t : Tally) (re
   pub standing_small : number_in (standing o t).verdict ≤ 4080
   standing_small =
       let few = openable.few_carts.1 in
-      let sums = total_most (λ a. steps (places_shown t a)) few_steps (carts o) in
-      let lacks = total_most (λ a. cond (is_shown t.shown a) 0 1) (λ a. one_or_none (is_shown t.shown a)) (carts o) in
+      let sums = total_most (λ a. steps (places_shown t a)) 255 few_steps (carts o) in
+      let lacks = total_most (λ a. cond (is_shown t.shown a) 0 1) 255 (λ a. one_or_none (is_shown t.shown a)) (carts o) in
       subst (λ x. number_in (verdict_of x (length t.branches) (unshown o t) (shown_sum o t) o.claim) ≤ 4080) (sym ((opened_exactly o).1 openable))
       (first_small (length t.branches) (unshown o t) (shown_sum o t) o.claim (within_limits o sound t reached).few_open (omega (arith, few, lacks)) (omega (arith, few, sums)) openable.small_claim
       (nat_le 1 (length t.branches)) (nat_le 1 (unshown o t)) (shown_sum o t == o.claim))
