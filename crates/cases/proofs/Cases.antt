@@ -1,6 +1,6 @@
 -- The worked cases, by computing.
 use Rattle.std.proofs.Common.{refl}
-use Rattle.cases.specs.Worked.{Holds, worked, WorkedCases}
+use Rattle.cases.specs.Worked.{ComesOut, worked, WorkedCases}
 use Rattle.std.specs.Fmt.{digits}
 use Rattle.std.proofs.lemmas.List.Elements.{All-from_recursion}
 use Rattle.maps.specs.Networks.{founding, joining}
@@ -17,4 +17,4 @@ use Rattle.tally.specs.Openings.{opened}
 
 pub worked_cases : WorkedCases
 unfolding digits map_reading list_reading grid_reading founding joining in_conflict route_check files_reading plan_reading heading commands opened showing splitting closing
-worked_cases = All-from_recursion Holds worked (refl, (refl, (refl, (refl, (refl, (refl, (refl, (refl, (refl, (refl, (refl, (refl, (refl, (refl, (refl, (refl, (refl, (refl, (refl, (refl, (refl, tt)))))))))))))))))))))
+worked_cases = All-from_recursion ComesOut worked (refl, (refl, (refl, (refl, (refl, (refl, (refl, (refl, (refl, (refl, (refl, (refl, (refl, (refl, (refl, (refl, (refl, (refl, (refl, (refl, (refl, (refl, (refl, (refl, tt))))))))))))))))))))))))

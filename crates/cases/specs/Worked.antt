@@ -40,21 +40,25 @@ abbrev pub line_of : Result Standing Fault → List ℕ
 line_of (Ok s) = text_of s.verdict
 line_of (Err f) = fault_text f
 
-abbrev pub Holds : Case → Type 0
-Holds (reading bytes outcome) = map_reading bytes ≡ outcome
-Holds (meeting ps qs conflict) = in_conflict ps qs ≡ conflict
-Holds (shortest f trips bans a limit length) = least_length f trips bans a limit ≡ length
-Holds (splitting f trips bans letter ops sides) = own.sides f trips bans letter ops ≡ sides
-Holds (settling map plan told) = line_of (files_reading map plan) ≡ told
+-- what comes of the case is what was worked out
+abbrev pub ComesOut : Case → Type 0
+ComesOut (reading bytes outcome) = map_reading bytes ≡ outcome
+ComesOut (meeting ps qs conflict) = in_conflict ps qs ≡ conflict
+ComesOut (shortest f trips bans a limit length) = least_length f trips bans a limit ≡ length
+ComesOut (splitting f trips bans letter ops sides) = own.sides f trips bans letter ops ≡ sides
+ComesOut (settling map plan told) = line_of (files_reading map plan) ≡ told
 
 -- the small floor's map
 abbrev pub small_map : List ℕ
 small_map = 80 ∷ 0 ∷ 5 ∷ 87 ∷ 0 ∷ 0 ∷ 0 ∷ 1 ∷ 87 ∷ 0 ∷ 1 ∷ 0 ∷ 2 ∷ 87 ∷ 0 ∷ 2 ∷ 0 ∷ 3 ∷ 87 ∷ 0 ∷ 2 ∷ 0 ∷ 4 ∷ []
 
+-- the map of six places in a line
+abbrev pub line_map : List ℕ
+line_map = 80 ∷ 0 ∷ 6 ∷ 87 ∷ 0 ∷ 0 ∷ 0 ∷ 1 ∷ 87 ∷ 0 ∷ 1 ∷ 0 ∷ 2 ∷ 87 ∷ 0 ∷ 2 ∷ 0 ∷ 3 ∷ 87 ∷ 0 ∷ 3 ∷ 0 ∷ 4 ∷ 87 ∷ 0 ∷ 4 ∷ 0 ∷ 5 ∷ []
+
 abbrev pub readings : List Case
 readings =
-    reading small_map (Ok (listed small_floor))
-    ∷ reading (80 ∷ 0 ∷ 6 ∷ 87 ∷ 0 ∷ 0 ∷ 0 ∷ 1 ∷ 87 ∷ 0 ∷ 1 ∷ 0 ∷ 2 ∷ 87 ∷ 0 ∷ 2 ∷ 0 ∷ 3 ∷ 87 ∷ 0 ∷ 3 ∷ 0 ∷ 4 ∷ 87 ∷ 0 ∷ 4 ∷ 0 ∷ 5 ∷ []) (Ok (listed line))
+    reading small_map (Ok (listed small_floor)) ∷ reading line_map (Ok (listed line))
     ∷ reading (codes "type octile\nheight 2\nwidth 3\nmap\n.@.\n...\n") (Ok (gridded (record { height = 2; width = 3; free = true ∷ false ∷ true ∷ true ∷ true ∷ true ∷ [] })))
     ∷ reading [] (Err (fault Headless 0)) ∷ reading (80 ∷ 0 ∷ 2 ∷ 87 ∷ 0 ∷ 0 ∷ 0 ∷ 2 ∷ []) (Err (fault NoPlace 3))
     ∷ reading (80 ∷ 0 ∷ 2 ∷ 87 ∷ 0 ∷ 0 ∷ 0 ∷ 1 ∷ 87 ∷ 0 ∷ 1 ∷ 0 ∷ 0 ∷ []) (Err (fault Twice 8))
@@ -90,7 +94,7 @@ small_heading = 79 ∷ 0 ∷ 6 ∷ 2 ∷ 67 ∷ 0 ∷ 0 ∷ 0 ∷ 3 ∷ 67 ∷ 0
 abbrev pub small_front : List ℕ
 small_front = small_heading ++ (82 ∷ 1 ∷ 3 ∷ 0 ∷ 4 ∷ 0 ∷ 4 ∷ 0 ∷ 4 ∷ 0 ∷ 2 ∷ [])
 
--- split on whether cart 1 is home by tick t
+-- split on whether the length of cart 1 is at most t
 abbrev pub by_tick : ℕ → List ℕ
 by_tick t = 84 ∷ 1 ∷ 0 ∷ t ∷ []
 
@@ -101,8 +105,14 @@ pair_map = 80 ∷ 0 ∷ 2 ∷ 87 ∷ 0 ∷ 0 ∷ 0 ∷ 1 ∷ []
 abbrev pub changing_places : List ℕ
 changing_places = 79 ∷ 0 ∷ 2 ∷ 2 ∷ 67 ∷ 0 ∷ 0 ∷ 0 ∷ 1 ∷ 67 ∷ 0 ∷ 1 ∷ 0 ∷ 0 ∷ 82 ∷ 0 ∷ 1 ∷ 0 ∷ 0 ∷ 0 ∷ 1 ∷ 82 ∷ 1 ∷ 1 ∷ 0 ∷ 1 ∷ 0 ∷ 0 ∷ 90 ∷ []
 
+-- a plan on the line with the same corridor: cart 0 from p to 5 and cart 1 from 5 to 0, to be through by ticks m and 7,
+-- and no closing
+abbrev pub through_line : ℕ → ℕ → List ℕ
+through_line p m =
+    79 ∷ 0 ∷ 10 ∷ 2 ∷ 67 ∷ 0 ∷ p ∷ 0 ∷ 5 ∷ 67 ∷ 0 ∷ 5 ∷ 0 ∷ 0 ∷ 75 ∷ 0 ∷ 1 ∷ 0 ∷ 1 ∷ 0 ∷ 2 ∷ 3 ∷ 0 ∷ m ∷ 0 ∷ 7 ∷ 90 ∷ []
+
 -- the whole plan; split at another tick; without the split; with one closing of two; a cart that stays at place 3; cart 1
--- goes to 2 at once, where cart 0 runs into it; two carts that change places
+-- goes to 2 at once, where cart 0 runs into it; two carts that change places; the three splits of the line
 abbrev pub settlings : List Case
 settlings =
     settling small_map (small_front ++ (by_tick 2 ++ (88 ∷ 88 ∷ 90 ∷ []))) (codes "least 6")
@@ -111,10 +121,13 @@ settlings =
     ∷ settling small_map (small_front ++ (by_tick 2 ++ (88 ∷ 90 ∷ []))) (codes "open 1")
     ∷ settling small_map (79 ∷ 0 ∷ 0 ∷ 1 ∷ 67 ∷ 0 ∷ 3 ∷ 0 ∷ 3 ∷ 82 ∷ 0 ∷ 0 ∷ 0 ∷ 3 ∷ 88 ∷ 90 ∷ []) (codes "least 0")
     ∷ settling small_map (small_heading ++ (82 ∷ 1 ∷ 1 ∷ 0 ∷ 4 ∷ 0 ∷ 2 ∷ 90 ∷ [])) (codes "refused call 15 25")
-    ∷ settling pair_map changing_places (codes "refused call 15 21") ∷ []
+    ∷ settling pair_map changing_places (codes "refused call 15 21")
+    ∷ settling line_map (through_line 0 7) (codes "open 2")
+    ∷ settling line_map (through_line 0 8) (codes "refused call 19 14")
+    ∷ settling line_map (through_line 2 7) (codes "refused call 19 14") ∷ []
 
 abbrev pub worked : List Case
 worked = readings ++ (meetings ++ (lengths ++ (splittings ++ settlings)))
 
 abbrev pub WorkedCases : Type 0
-WorkedCases = All Holds worked
+WorkedCases = All ComesOut worked

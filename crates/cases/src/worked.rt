@@ -7,5 +7,5 @@ pub fn worked_cases() -> usize
     ensures count { result ≡ length worked }
     ensures all { WorkedCases }
 {
-    21
+    24
 }
