@@ -1,0 +1,34 @@
+// A refusal with its reason, and the words of docs/REFUSALS.md.
+#pragma once
+
+#include "../second/refusals.h"
+
+#include <optional>
+#include <string>
+
+namespace tell {
+
+using second::Number;
+
+struct Refusal {
+    Number number;
+    std::string reason;
+};
+
+// The first reason against a call, if there is one.
+using Answer = std::optional<Refusal>;
+
+// The refusal's word.
+const char *word(Number number);
+
+// The answer as it is printed, without its line end. The reasons are worked out apart from the
+// check's own tests, so it throws std::logic_error if the number is another than the check's.
+std::string answer_text(const Answer &answer, Number number);
+
+// A number as text; the reasons are put together from these.
+template <class Whole>
+std::string str(Whole number) {
+    return std::to_string(number);
+}
+
+}  // namespace tell
