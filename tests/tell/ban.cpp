@@ -1,11 +1,8 @@
 #include "ban.h"
 
+#include "text.h"
+
 namespace tell {
-namespace {
-
-std::string str(unsigned number) { return std::to_string(number); }
-
-}  // namespace
 
 std::string ban_text(const second::Ban &ban) {
     const std::string cart = "cart " + str(ban.cart);

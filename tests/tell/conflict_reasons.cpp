@@ -1,5 +1,7 @@
 #include "conflict_reasons.h"
 
+#include "text.h"
+
 namespace tell {
 namespace {
 
@@ -8,7 +10,7 @@ using second::Route;
 
 Place place_at(const Route &route, size_t tick) { return route[std::min(tick, route.size() - 1)]; }
 
-std::string step(Place from, Place to) { return "from " + std::to_string(from) + " to " + std::to_string(to); }
+std::string step(Place from, Place to) { return "from " + str(from) + " to " + str(to); }
 
 }  // namespace
 
@@ -17,10 +19,10 @@ std::optional<std::string> conflict_reason(const Route &one, const Route &other)
     for (size_t tick = 0; tick < ticks; ++tick) {
         const Place here = place_at(one, tick), next = place_at(one, tick + 1);
         const Place there = place_at(other, tick), its_next = place_at(other, tick + 1);
-        if (here == there) return "both at " + std::to_string(here) + " at tick " + std::to_string(tick);
+        if (here == there) return "both at " + str(here) + " at tick " + str(tick);
         if (here == its_next && next == there)
             return step(here, next) + " against its step " + step(there, its_next) + ", arriving at tick " +
-                   std::to_string(tick + 1);
+                   str(tick + 1);
     }
     return std::nullopt;
 }

@@ -2,6 +2,7 @@
 
 #include "../second/corridor.h"
 #include "passing_reasons.h"
+#include "text.h"
 
 namespace tell {
 namespace {
@@ -11,8 +12,6 @@ using second::Corridor;
 using second::Floor;
 using second::Neighbours;
 using second::Place;
-
-std::string str(unsigned long number) { return std::to_string(number); }
 
 Place beyond(const Neighbours &around, Place came_from) {
     return around.places[0] == came_from ? around.places[1] : around.places[0];

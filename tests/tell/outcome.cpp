@@ -1,12 +1,12 @@
 #include "outcome.h"
 
+#include "text.h"
+
 namespace tell {
 namespace {
 
 using second::Standing;
 using second::Verdict;
-
-std::string str(unsigned long number) { return std::to_string(number); }
 
 }  // namespace
 

@@ -1,6 +1,7 @@
 #include "passing_reasons.h"
 
 #include "../second/search.h"
+#include "text.h"
 
 namespace tell {
 namespace {
@@ -18,8 +19,6 @@ struct Passer {
     char by;
     Tick last;
 };
-
-std::string str(unsigned long number) { return std::to_string(number); }
 
 std::string can_be(const Passer &passer, Tick tick) {
     return "cart " + str(passer.cart) + " can be at " + str(passer.end) + " at tick " + str(tick);

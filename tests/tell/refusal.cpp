@@ -19,7 +19,7 @@ std::string answer_text(const Answer &answer, Number number) {
     if ((answer ? answer->number : second::taken) != number)
         throw std::logic_error("the reasons come to another answer than the check");
     if (!answer) return "taken";
-    return "refused " + str<unsigned>(number) + " (" + word(number) + "): " + answer->reason;
+    return "refused " + str(number) + " (" + word(number) + "): " + answer->reason;
 }
 
 }  // namespace tell

@@ -2,9 +2,9 @@
 #pragma once
 
 #include "../second/refusals.h"
+#include "text.h"
 
 #include <optional>
-#include <string>
 
 namespace tell {
 
@@ -24,11 +24,5 @@ const char *word(Number number);
 // The answer as it is printed, without its line end. The reasons are worked out apart from the
 // check's own tests, so it throws std::logic_error if the number is another than the check's.
 std::string answer_text(const Answer &answer, Number number);
-
-// A number as text; the reasons are put together from these.
-template <class Whole>
-std::string str(Whole number) {
-    return std::to_string(number);
-}
 
 }  // namespace tell

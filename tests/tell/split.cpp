@@ -1,12 +1,14 @@
 #include "split.h"
 
+#include "text.h"
+
 namespace tell {
 namespace {
 
 // "cart 0", or "carts 0 and 1".
 std::string named(const std::string &what, const std::vector<unsigned> &numbers) {
-    if (numbers.size() == 1) return what + " " + std::to_string(numbers[0]);
-    return what + "s " + std::to_string(numbers[0]) + " and " + std::to_string(numbers[1]);
+    if (numbers.size() == 1) return what + " " + str(numbers[0]);
+    return what + "s " + str(numbers[0]) + " and " + str(numbers[1]);
 }
 
 }  // namespace
@@ -28,7 +30,7 @@ Split split_of(const second::Command &command) {
 std::string split_text(const Split &split) {
     std::string text = std::string("split ") + static_cast<char>(split.letter) + ": " + named("cart", split.carts);
     if (!split.places.empty()) text += ", " + named("place", split.places);
-    if (split.letter == 'K') text += ", length " + std::to_string(split.length);
+    if (split.letter == 'K') text += ", length " + str(split.length);
     return text + ", " + named("tick", split.ticks);
 }
 
