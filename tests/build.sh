@@ -43,7 +43,7 @@ $cxx $tell $second $objects -o "$out/tell"
 compile tests/generate/generate_main.cpp
 $cxx $generate $objects -o "$out/generate"
 
-$cxx $differential $generate $second $proved -o "$out/differential"
+$cxx $differential $generate $tell $second $proved -o "$out/differential"
 
 compile examples/settle.cpp
 $cxx $objects $proved -o "$out/example"
