@@ -24,7 +24,8 @@ std::string fault_text(const second::Fault &fault) {
 std::string meaning(const Standing &standing, unsigned claim) {
     if (standing.verdict == Verdict::open)
         return "So nothing is shown of the claim " + str(claim) + " yet: a branch is open.";
-    const std::string none = "So no conflict-free set of routes for these carts on this floor sums to less than " + str(claim);
+    const std::string none =
+        "So no conflict-free set of routes for these carts on this floor sums to less than " + str(claim);
     switch (standing.verdict) {
     case Verdict::least:
         return none + ", and the routes shown sum to " + str(claim) + ".";

@@ -14,7 +14,8 @@ using second::Trip;
 Answer places_answer(const Floor &floor, const Route &route) {
     for (size_t tick = 0; tick < route.size(); ++tick)
         if (!floor.has(route[tick]))
-            return Refusal{second::no_place, "place " + str(route[tick]) + " at tick " + str(tick) + " is not on the floor"};
+            return Refusal{second::no_place,
+                           "place " + str(route[tick]) + " at tick " + str(tick) + " is not on the floor"};
     return std::nullopt;
 }
 
