@@ -1,7 +1,7 @@
 #!/bin/sh
-# Builds the second checker, the generator of halls, the program that compares the checkers, the example of a program
-# that calls the proved one, and the benchmark; the last three are linked with the library that `rt lib` builds in
-# crates/host.
+# Builds the second checker, the program that tells what `account` has to print, the generator of halls, the program that
+# compares the checkers, the example of a program that calls the proved one, and the benchmark; the last three are linked
+# with the library that `rt lib` builds in crates/host.
 #
 #     tests/build.sh [FOLDER]
 #
@@ -29,6 +29,8 @@ library_files() { ls "tests/$1"/*.cpp | grep -v _main.cpp; }
 
 compile $(library_files second)
 second=$objects
+compile $(library_files tell)
+tell=$objects
 compile $(library_files generate)
 generate=$objects
 compile $(library_files differential)
@@ -36,10 +38,12 @@ differential=$objects
 
 compile tests/second/second_main.cpp
 $cxx $second $objects -o "$out/second"
+compile tests/tell/tell_main.cpp
+$cxx $tell $second $objects -o "$out/tell"
 compile tests/generate/generate_main.cpp
 $cxx $generate $objects -o "$out/generate"
 
-$cxx $differential $generate $second $proved -o "$out/differential"
+$cxx $differential $generate $tell $second $proved -o "$out/differential"
 
 compile examples/settle.cpp
 $cxx $objects $proved -o "$out/example"

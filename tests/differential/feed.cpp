@@ -3,6 +3,7 @@
 #include "../../include/settle.h"
 #include "../generate/files.h"
 #include "../second/second.h"
+#include "told_line.h"
 
 #include <array>
 #include <cstring>
@@ -81,10 +82,17 @@ void Feeder::compare(const File &map, const File &plan, size_t out_len) {
     ++spread[words(second)];
 }
 
+void Feeder::compare_told(const File &map, const File &plan) {
+    if (line == "unread") return;
+    const std::string told = told_line(map, plan);
+    if (told != line) report("tell: " + told + " in place of " + line, map, plan);
+}
+
 std::string Feeder::feed(const File &map, const File &plan) {
     static const size_t lengths[] = {64, 8, 9};
     for (size_t length : {size_t{0}, size_t{7}}) compare(map, plan, length);
     compare(map, plan, lengths[fed % 3]);
+    compare_told(map, plan);
     ++fed;
     return line;
 }

@@ -36,6 +36,9 @@ public:
 private:
     void compare(const File &map, const File &plan, size_t out_len);
 
+    // Compares the line of settle that tell tells with that of the last comparison.
+    void compare_told(const File &map, const File &plan);
+
     std::string folder;
     std::map<std::string, size_t> spread;
     std::string line;  // of the last comparison

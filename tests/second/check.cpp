@@ -4,13 +4,6 @@
 #include "splits.h"
 
 namespace second {
-namespace {
-
-constexpr unsigned most_claim = 4000;
-constexpr size_t most_splits_on_a_branch = 64;
-constexpr size_t most_splits = 1000000;
-
-}  // namespace
 
 Number judge_opening(const Floor &floor, const std::vector<Trip> &trips, unsigned claim) {
     if (trips.empty() || trips.size() > most_carts) return carts;
@@ -24,16 +17,17 @@ Number judge_opening(const Floor &floor, const std::vector<Trip> &trips, unsigne
 }
 
 Check::Check(const Floor &floor, std::vector<Trip> carts_trips, unsigned claim)
-    : floor(floor), trips(std::move(carts_trips)), claim(claim), open(1), routes(trips.size()) {}
+    : floor_(floor), trips_(std::move(carts_trips)), claim_(claim), open(1), routes(trips_.size()) {}
 
 Number Check::show(unsigned cart, const Route &route) {
-    if (cart >= trips.size()) return no_cart;
+    if (cart >= trips_.size()) return no_cart;
     if (!routes[cart].empty()) return shown_already;
-    const Number number = judge_route(floor, trips[cart], route);
+    const Number number = judge_route(floor_, trips_[cart], route);
     if (number != taken) return number;
-    for (const Route &other : routes)
-        if (!other.empty() && in_conflict(route, other)) return conflict;
+    for (unsigned other : carts_shown)
+        if (in_conflict(route, routes[other])) return conflict;
     routes[cart] = route;
+    carts_shown.push_back(cart);
     return taken;
 }
 
@@ -41,7 +35,7 @@ Number Check::split(uint8_t letter, Bytes operands) {
     if (open.empty()) return nothing_open;
     if (open.back().size() >= most_splits_on_a_branch || splits_taken >= most_splits) return full;
     Sides sides;
-    const Number number = split_sides(floor, trips, open.back(), letter, operands, sides);
+    const Number number = split_sides(floor_, trips_, open.back(), letter, operands, sides);
     if (number != taken) return number;
     Branch left = open.back();
     left.push_back(sides.left);
@@ -53,8 +47,9 @@ Number Check::split(uint8_t letter, Bytes operands) {
 
 Number Check::close() {
     if (open.empty()) return nothing_open;
-    if (cheaper_exists(floor, trips, open.back(), claim)) return cheaper_set;
+    if (cheaper_exists(floor_, trips_, open.back(), claim_)) return cheaper_set;
     open.pop_back();
+    ++closings_taken;
     return taken;
 }
 
@@ -67,8 +62,8 @@ Standing Check::standing() const {
         else sum += static_cast<unsigned>(route.size() - 1);
     }
     if (without_route > 0) return {Verdict::unshown, without_route};
-    if (sum != claim) return {Verdict::othersum, sum};
-    return {Verdict::least, claim};
+    if (sum != claim_) return {Verdict::othersum, sum};
+    return {Verdict::least, claim_};
 }
 
 }  // namespace second

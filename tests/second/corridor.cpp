@@ -5,26 +5,14 @@
 namespace second {
 namespace {
 
-constexpr unsigned longest_corridor = 63;
-
-// Whether the cart can stand at the place at some tick below the limit.
-bool can_stand_before(const Floor &floor, Place start, const CartBans &bans, Place place, Tick limit) {
-    Walks walks(floor, start, bans);
-    for (Tick tick = 0; tick < limit && !walks.ended(); ++tick) {
-        if (walks.at(place)) return true;
-        walks.step();
-    }
-    return false;
-}
-
 // Whether the cart goes to the end of the corridor as asked: up to tick `last` by the move from the
 // place before the end only, and not at all at a tick u with u + k < other_last.
 bool goes_as_asked(const Floor &floor, const Trip &trip, CartBans bans, Place before_end, Place end,
                    Tick last, Tick other_last, unsigned k) {
     const Tick early = other_last > k ? other_last - k : 0;  // the ticks u are those below
-    if (can_stand_before(floor, trip.start, bans, end, early)) return false;
+    if (first_stand(floor, trip.start, bans, end, early)) return false;
     bans.moves.push_back({before_end, end, 0, for_ever});
-    return !can_stand_before(floor, trip.start, bans, end, last + 1);
+    return !first_stand(floor, trip.start, bans, end, last + 1);
 }
 
 bool starts_inside(const Corridor &corridor, Place start) {

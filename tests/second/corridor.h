@@ -7,6 +7,8 @@
 
 namespace second {
 
+constexpr unsigned longest_corridor = 63;
+
 using Corridor = std::vector<Place>;  // c0 to ck
 
 // The corridor of k steps that begins with p and q, if it is one; both are on the floor.

@@ -68,6 +68,15 @@ std::optional<Tick> least_rest(Place target, const CartBans &bans) {
 
 }  // namespace
 
+std::optional<Tick> first_stand(const Floor &floor, Place start, const CartBans &bans, Place place, Tick limit) {
+    Walks walks(floor, start, bans);
+    for (Tick tick = 0; tick < limit && !walks.ended(); ++tick) {
+        if (walks.at(place)) return tick;
+        walks.step();
+    }
+    return std::nullopt;
+}
+
 std::optional<Tick> least_length(const Floor &floor, const std::vector<Trip> &trips,
                                  const std::vector<Ban> &bans, unsigned cart, Tick limit) {
     const Trip &trip = trips[cart];

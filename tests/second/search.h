@@ -39,6 +39,9 @@ private:
     Row now;
 };
 
+// The first tick below the limit at which a cart that starts there can stand at the place.
+std::optional<Tick> first_stand(const Floor &floor, Place start, const CartBans &bans, Place place, Tick limit);
+
 // The least length of a cart under the bans, if there is one below the limit.
 std::optional<Tick> least_length(const Floor &floor, const std::vector<Trip> &trips,
                                  const std::vector<Ban> &bans, unsigned cart, Tick limit);

@@ -1,22 +1,10 @@
 // Prints the line that `settle` prints for the folder given as argument.
+#include "files.h"
 #include "second.h"
 
 #include <cstdio>
-#include <fstream>
-#include <iterator>
-#include <optional>
-#include <string>
-#include <vector>
 
 namespace {
-
-using File = std::vector<uint8_t>;
-
-std::optional<File> read_file(const std::string &name) {
-    std::ifstream in(name, std::ios::binary);
-    if (!in) return std::nullopt;
-    return File(std::istreambuf_iterator<char>(in), std::istreambuf_iterator<char>());
-}
 
 void print_outcome(const uint8_t out[8]) {
     const char *words[] = {"refused", "least", "open", "unshown", "othersum"};
@@ -35,8 +23,8 @@ int main(int argc, char **argv) {
         return 2;
     }
     const std::string folder = argv[1];
-    const std::optional<File> map = read_file(folder + "/floor.map");
-    const std::optional<File> plan = read_file(folder + "/plan.work");
+    const std::optional<second::File> map = second::read_file(folder + "/floor.map");
+    const std::optional<second::File> plan = second::read_file(folder + "/plan.work");
     uint8_t out[8];
     if (!map || !plan ||
         second_opinion(map->data(), map->size(), plan->data(), plan->size(), out, sizeof out) != 0) {

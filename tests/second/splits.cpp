@@ -5,8 +5,6 @@
 namespace second {
 namespace {
 
-constexpr Tick most_ticks = 4000;
-
 struct Asked {
     const Floor &floor;
     const std::vector<Trip> &trips;

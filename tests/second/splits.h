@@ -7,6 +7,8 @@
 
 namespace second {
 
+constexpr Tick most_ticks = 4000;
+
 // How many bytes the letter's operands are; 0 for a letter that is no split's.
 size_t operand_bytes(uint8_t letter);
 
