@@ -72,9 +72,9 @@ void tell_calls(std::ostream &out, second::Bytes plan, size_t at, Check &check) 
         tell_call(out, check, command);
         command = second::read_call(plan, command.behind());
     }
+    second::ask_end(plan, command);
     out << "  " << command.offset << ": settle\n";
     tell_standing(out, check);
-    second::ask_end(plan, command);
 }
 
 }  // namespace tell
