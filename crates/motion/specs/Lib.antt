@@ -1,4 +1,5 @@
 pub mod Routes
+pub mod Trips
 pub mod Bans
 pub mod Stands
 pub mod Listed

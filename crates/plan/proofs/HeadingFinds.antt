@@ -7,12 +7,13 @@ use Rattle.std.proofs.lemmas.Bool.Decides.{nat_tests}
 use Rattle.floor.specs.Checks.{refuse, ◌>>=◌, ◌>>◌}
 use Rattle.mapfile.specs.ListLayout.{Bytes, two_bytes}
 use Rattle.mapfile.proofs.Words.{word_high, word_low}
+use Rattle.motion.specs.Trips.{FewCarts}
 use Rattle.motion.specs.declared.trip.Trip.{Trip}
 use Rattle.splits.specs.Operands.{byte, word}
 use Rattle.plan.specs.Faults.{call_fault, file_fault}
 use Rattle.plan.specs.FirstFault.{HeadingFault, NoCommand, file_ends, no_opening, no_trip, not_carts, other_letter, operands_cut}
 use Rattle.plan.specs.Headings.{Heading, Rest, heading, operands, trip_of, trips_at}
-use Rattle.plan.specs.Layout.{FewCarts, heading_text, opening_text, trip_text}
+use Rattle.plan.specs.Layout.{heading_text, opening_text, trip_text}
 use Rattle.plan.specs.declared.fault.Fault.{Fault}
 use Rattle.plan.specs.declared.fault.FileRefusal.{FileRefusal}
 use Rattle.plan.specs.declared.fault.FileRefusal.TheVariants.{Letter, CutShort}

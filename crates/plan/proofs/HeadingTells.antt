@@ -2,9 +2,10 @@
 use Rattle.std.proofs.Common.{◌≡◌, ℕ, ◌+◌, ◌*◌, List, ◌++◌, length, Ok, Err, Result, refl, ap, ◌∙◌, sym, subst}
 use Rattle.floor.proofs.Chains.{ok_no_err, ok_same, err_same}
 use Rattle.mapfile.specs.ListLayout.{Bytes}
+use Rattle.motion.specs.Trips.{FewCarts}
 use Rattle.plan.specs.FirstFault.{HeadingFault, HeadingFaultsExactly}
 use Rattle.plan.specs.Headings.{Heading, heading}
-use Rattle.plan.specs.Layout.{FewCarts, HeadingReadExactly, heading_text}
+use Rattle.plan.specs.Layout.{HeadingReadExactly, heading_text}
 use Rattle.plan.specs.declared.fault.Fault.{Fault}
 use Rattle.plan.proofs.HeadingFinds.{HeadingFinds, heading_find, no_heading, rest, whole_heading}
 use Rattle.plan.proofs.HeadingWritten.{heading_refuses, heading_written}

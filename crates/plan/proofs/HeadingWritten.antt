@@ -6,12 +6,13 @@ use Rattle.std.proofs.lemmas.Bool.Decides.{Decides-and, nat_tests}
 use Rattle.floor.specs.Checks.{refuse, ◌>>=◌, ◌>>◌}
 use Rattle.floor.proofs.Deciding.{decides_leb, false_from_decides}
 use Rattle.mapfile.proofs.Words.{word_back}
+use Rattle.motion.specs.Trips.{FewCarts}
 use Rattle.motion.specs.declared.trip.Trip.{Trip}
 use Rattle.splits.specs.Operands.{byte, word}
 use Rattle.plan.specs.Faults.{call_fault, file_fault}
 use Rattle.plan.specs.FirstFault.{HeadingFault, NoCommand, file_ends, other_letter, no_opening, no_trip, not_carts, operands_cut}
 use Rattle.plan.specs.Headings.{Heading, Rest, heading, operands, trip_of, trips_at}
-use Rattle.plan.specs.Layout.{FewCarts, heading_text, opening_text, trip_text}
+use Rattle.plan.specs.Layout.{heading_text, opening_text, trip_text}
 use Rattle.plan.specs.declared.fault.Fault.{Fault}
 use Rattle.plan.specs.declared.fault.FileRefusal.{FileRefusal}
 use Rattle.plan.specs.declared.fault.FileRefusal.TheVariants.{Letter, CutShort}

@@ -7,13 +7,14 @@ use Rattle.floor.specs.Checks.{◌>>=◌, ◌>>◌}
 use Rattle.floor.specs.Floor.{Floor, Lawful}
 use Rattle.floor.proofs.Chains.{ok_no_err, ok_same, err_same}
 use Rattle.mapfile.specs.ListLayout.{Bytes}
+use Rattle.motion.specs.Trips.{FewCarts}
 use Rattle.motion.specs.declared.trip.Trip.{Trip}
 use Rattle.splits.specs.Rules.{Rules, LawfulRules}
 use Rattle.plan.specs.Commands.{commands}
 use Rattle.plan.specs.Faults.{call_fault}
 use Rattle.plan.specs.FirstFault.{PlanFault, PlanFaultsExactly, in_heading, barred, at_call}
 use Rattle.plan.specs.Headings.{Heading, heading}
-use Rattle.plan.specs.Layout.{FewCarts, PlanReadExactly, Settles, heading_text, trip_text}
+use Rattle.plan.specs.Layout.{PlanReadExactly, Settles, heading_text, trip_text}
 use Rattle.plan.specs.Reading.{blame, made, made_if_open, opening, plan_reading}
 use Rattle.plan.specs.declared.fault.Fault.{Fault}
 use Rattle.plan.specs.declared.fault.PlanRefusal.{PlanRefusal}

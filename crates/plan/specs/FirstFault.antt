@@ -2,10 +2,11 @@
 use Rattle.std.specs.Prelude.{◌≡◌, ℕ, ◌+◌, ◌-◌, ◌*◌, ◌<◌, true, false, ◌↔◌, List, [], ◌∷◌, ◌++◌, length, None, Err, ◌≢◌}
 use Rattle.std.specs.List.{flat_map}
 use Rattle.floor.specs.Floor.{Floor}
+use Rattle.motion.specs.Trips.{FewCarts}
 use Rattle.motion.specs.declared.trip.Trip.{Trip}
 use Rattle.splits.specs.Rules.{Rules}
 use Rattle.plan.specs.Headings.{heading}
-use Rattle.plan.specs.Layout.{AllTaken, CallsText, FewCarts, heading_text, opening_text, trip_text}
+use Rattle.plan.specs.Layout.{AllTaken, CallsText, heading_text, opening_text, trip_text}
 use Rattle.plan.specs.Reading.{opening, plan_reading}
 use Rattle.plan.specs.declared.fault.Fault.{Fault}
 use Rattle.plan.specs.declared.fault.FileRefusal.{FileRefusal}

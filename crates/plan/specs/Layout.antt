@@ -3,6 +3,7 @@ use Rattle.std.specs.Prelude.{◌≡◌, ℕ, ◌+◌, ◌-◌, ◌*◌, ◌≤�
 use Rattle.std.specs.List.{flat_map}
 use Rattle.floor.specs.Floor.{Floor}
 use Rattle.mapfile.specs.ListLayout.{two_bytes}
+use Rattle.motion.specs.Trips.{FewCarts}
 use Rattle.motion.specs.declared.trip.Trip.{Trip}
 use Rattle.splits.specs.Rules.{Rules}
 use Rattle.plan.specs.Headings.{Heading, heading}
@@ -25,9 +26,6 @@ opening_text claim carts = 79 ∷ (two_bytes claim ++ (carts ∷ []))
 -- and then the trip of each cart
 abbrev pub heading_text : ℕ → List Trip → List ℕ
 heading_text claim trips = opening_text claim (length trips) ++ flat_map trip_text trips
-
-abbrev pub FewCarts : ℕ → Type 0
-FewCarts n = (1 ≤ n) × (n ≤ 16)
 
 -- a heading is read exactly when the bytes are its text, for 1 to 16 carts, and those that are left behind it
 abbrev pub HeadingReadExactly : List ℕ → Type 0

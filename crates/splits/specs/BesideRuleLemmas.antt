@@ -13,6 +13,6 @@ pub beside_lawful : (a b : Rules) → LawfulRules a → LawfulRules b → Lawful
 beside_lawful a b la lb = record {
   fresh = λ l known reserved. ⊎_elim (λ e. la.fresh l e reserved) (λ e. lb.fresh l e reserved) (or_cases _ _ known);
   fits = λ l bytes n. either_way (a.knows l) (la.fits l bytes n) (lb.fits l bytes n);
-  names = λ f trips bans l ops left right law. either_way (a.knows l) (la.names f trips bans l ops left right law) (lb.names f trips bans l ops left right law);
-  covers = λ f trips bans l ops left right law. either_way (a.knows l) (la.covers f trips bans l ops left right law) (lb.covers f trips bans l ops left right law);
+  names = λ f trips bans l ops left right asked. either_way (a.knows l) (la.names f trips bans l ops left right asked) (lb.names f trips bans l ops left right asked);
+  covers = λ f trips bans l ops left right asked. either_way (a.knows l) (la.covers f trips bans l ops left right asked) (lb.covers f trips bans l ops left right asked);
 }

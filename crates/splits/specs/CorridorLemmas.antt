@@ -14,13 +14,13 @@ use Rattle.search.proofs.Standing.{decides_stands_before}
 use Rattle.splits.specs.Conditions.{Two}
 use Rattle.splits.specs.Corridor.{Corridor, Outside, WalkWithout, Passes, CorridorFor, forth, back, corridor_bans}
 use Rattle.splits.specs.CorridorTests.{passage, last_move_ban, is_outside, is_passing, is_corridor_for, led_to, corridor_sides, corridor_letter, corridor_rules, CorridorTells}
-use Rattle.splits.specs.Rules.{LawfulRules}
+use Rattle.splits.specs.Rules.{LawfulSides, LawfulRules}
 use Rattle.splits.specs.declared.corridor.passage.Passage.{Passage}
 use Rattle.splits.specs.declared.corridor.passage.CartPassage.{CartPassage}
 use Rattle.splits.specs.CorridorChainLemmas.{led_onward, same_onward, corridor_onward, decides_inner, decides_corridor}
 use Rattle.splits.specs.CorridorCoversLemmas.{corridor_covers}
 use Rattle.splits.specs.JudgingLemmas.{decides_two, decides_in_time, judged_tells_in_turn}
-use Rattle.splits.specs.LetteredLemmas.{LawfulSides, lettered_lawful}
+use Rattle.splits.specs.LetteredLemmas.{lettered_lawful}
 use Rattle.splits.specs.WalksLemmas.{walks_under_the_ban}
 
 -- the places of a corridor are on the floor
@@ -128,9 +128,9 @@ corridor_tells f law trips bans o =
     own_led : {sides : Ban × Ban} → Own sides → Own (corridor_bans o (led_to f o))
     own_led own = (led_to f o, corridor_for_same f trips bans o own.0 (led_to f o) (led_only f law trips bans o own.0 own.1) own.1, refl)
 
--- the sides that are given keep what the laws ask
-told_lawful : (f : Floor) → Lawful f → (trips : List Trip) (bans : List Ban) (o : Passage) (sides : Ban × Ban) → CorridorTells f trips bans o (Ok sides) → LawfulSides f trips bans sides
-told_lawful f law trips bans o sides (two, places, ticks, (c, asked, is)) =
+-- the sides that are given keep what the laws ask, whatever the carts and the bans are
+pub corridor_sides_lawful : (f : Floor) → Lawful f → (trips : List Trip) (bans : List Ban) (o : Passage) (sides : Ban × Ban) → CorridorTells f trips bans o (Ok sides) → LawfulSides f trips bans sides
+corridor_sides_lawful f law trips bans o sides (two, places, ticks, (c, asked, is)) =
     let on = on_floor f law c o.k asked.way in
     subst (LawfulSides f trips bans) (sym is) (
       (two.0, on o.k (omega arith), omega arith, ticks.0),
@@ -140,4 +140,4 @@ told_lawful f law trips bans o sides (two, places, ticks, (c, asked, is)) =
 
 pub corridor_lawful : LawfulRules corridor_rules
 corridor_lawful = lettered_lawful corridor_letter 11 (λ f trips bans ops. corridor_sides f trips bans (passage ops)) (λ f trips bans ops. CorridorTells f trips bans (passage ops)) (λ reserved. omega arith)
-    (λ f law trips bans ops. corridor_tells f law trips bans (passage ops)) (λ f law trips bans ops. told_lawful f law trips bans (passage ops))
+    (λ f law trips bans ops. corridor_tells f law trips bans (passage ops)) (λ f trips bans ops given asked. corridor_sides_lawful f asked.floor trips bans (passage ops) given)

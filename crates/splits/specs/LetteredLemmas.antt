@@ -7,27 +7,23 @@ use Rattle.floor.specs.Floor.{Floor, Lawful}
 use Rattle.motion.specs.declared.trip.Trip.{Trip}
 use Rattle.motion.specs.declared.ban.Ban.{Ban}
 use Rattle.splits.specs.Operands.{of_width}
-use Rattle.splits.specs.Rules.{Sides, Names, Covered, Reserved, LawfulRules}
-
--- what the laws ask of two sides
-abbrev pub LawfulSides : Floor → List Trip → List Ban → Ban × Ban → Type 0
-LawfulSides f trips bans sides = Names f trips sides.0 × Names f trips sides.1 × Covered f trips bans sides.0 sides.1
+use Rattle.splits.specs.Rules.{Sides, LawfulSides, Askable, Reserved, LawfulRules}
 
 pub width_given : (n : ℕ) (bytes : List ℕ) (w : ℕ) → (of_width n bytes ≡ Some w) ↔ ((w ≡ n) × (n ≤ length bytes))
 width_given n bytes w = (λ e. (grind (arith, nat_tests), grind (arith, nat_tests)), λ h. grind (arith, nat_tests))
 
--- Says is what an answer says: each answer says what is so, and where two sides are given, that makes them lawful
+-- Says is what an answer says: each answer says what is so, and where two sides are given to a check, that makes them lawful
 module _ (letter width : ℕ) (sides : Floor → List Trip → List Ban → List ℕ → Sides) (Says : Floor → List Trip → List Ban → List ℕ → Sides → Type 0) where
   pub lettered_lawful : (Reserved letter → ⊥) →
       ((f : Floor) → Lawful f → (trips : List Trip) (bans : List Ban) (ops : List ℕ) → Says f trips bans ops (sides f trips bans ops)) →
-      ((f : Floor) → Lawful f → (trips : List Trip) (bans : List Ban) (ops : List ℕ) (given : Ban × Ban) → Says f trips bans ops (Ok given) → LawfulSides f trips bans given) →
+      ((f : Floor) (trips : List Trip) (bans : List Ban) (ops : List ℕ) (given : Ban × Ban) → Askable f trips bans → Says f trips bans ops (Ok given) → LawfulSides f trips bans given) →
       LawfulRules (record { knows = λ l. (l == letter); width = λ l bytes. of_width width bytes; sides = λ f trips bans l ops. sides f trips bans ops })
   lettered_lawful free says lawful = record {
     fresh = λ l known reserved. free (subst Reserved (eqb-true l letter known) reserved);
     fits = λ l bytes n e. let h = (width_given width bytes n).0 e in omega arith;
-    names = λ f trips bans l ops left right law e. let h = as_said f law trips bans ops (left, right) e in (h.0, h.1);
-    covers = λ f trips bans l ops left right law e. (as_said f law trips bans ops (left, right) e).2;
+    names = λ f trips bans l ops left right asked e. let h = as_said f trips bans ops (left, right) asked e in (h.0, h.1);
+    covers = λ f trips bans l ops left right asked e. (as_said f trips bans ops (left, right) asked e).2;
   }
     where
-      as_said : (f : Floor) → Lawful f → (trips : List Trip) (bans : List Ban) (ops : List ℕ) (given : Ban × Ban) → sides f trips bans ops ≡ Ok given → LawfulSides f trips bans given
-      as_said f law trips bans ops given e = lawful f law trips bans ops given (subst (Says f trips bans ops) e (says f law trips bans ops))
+      as_said : (f : Floor) (trips : List Trip) (bans : List Ban) (ops : List ℕ) (given : Ban × Ban) → Askable f trips bans → sides f trips bans ops ≡ Ok given → LawfulSides f trips bans given
+      as_said f trips bans ops given asked e = lawful f trips bans ops given asked (subst (Says f trips bans ops) e (says f asked.floor trips bans ops))

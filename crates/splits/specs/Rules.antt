@@ -1,7 +1,8 @@
 -- What a split rule means, and the laws that it shows.
-use Rattle.std.specs.Prelude.{◌≡◌, ℕ, ◌<◌, ◌≤◌, Bool, true, ◌⊎◌, List, length, Some, Ok, Option, Result}
+use Rattle.std.specs.Prelude.{◌≡◌, ℕ, ◌<◌, ◌≤◌, Bool, true, ◌⊎◌, List, length, Some, Ok, All, Option, Result}
 use Rattle.floor.specs.Floor.{Floor, Lawful}
 use Rattle.motion.specs.Routes.{RouteSet, ConflictFree}
+use Rattle.motion.specs.Trips.{FewCarts, OnFloor, Apart}
 use Rattle.motion.specs.Bans.{Keeps, KeepsAll}
 use Rattle.motion.specs.declared.trip.Trip.{Trip}
 use Rattle.motion.specs.declared.ban.Ban.{Ban}
@@ -34,19 +35,33 @@ Names f trips (By c t) = (c.0 < length trips) × InTime t.0
 abbrev pub Covered : Floor → List Trip → List Ban → Ban → Ban → Type 0
 Covered f trips bans left right = (s : RouteSet f trips) → ConflictFree s → KeepsAll s bans → Keeps s left ⊎ Keeps s right
 
+-- what two sides owe the branch: both name what is there, and no conflict-free set of it is lost
+abbrev pub LawfulSides : Floor → List Trip → List Ban → Ban × Ban → Type 0
+LawfulSides f trips bans sides = Names f trips sides.0 × Names f trips sides.1 × Covered f trips bans sides.0 sides.1
+
+-- What a check can ask a rule about: on a lawful floor, trips on which a check may be opened, and the bans of a branch,
+-- at most 64, each of which names what is there.
+pub record Askable (f : Floor) (trips : List Trip) (bans : List Ban) : Type 0 where
+  pub floor : Lawful f
+  pub few_carts : FewCarts (length trips)
+  pub on_floor : OnFloor f trips
+  pub apart : Apart trips
+  pub few_bans : length bans ≤ 64
+  pub named : All (Names f trips) bans
+
 -- the letters that a plan uses otherwise: O, C, R, X and Z
 abbrev pub Reserved : ℕ → Type 0
 Reserved l = (l ≡ 79) ⊎ ((l ≡ 67) ⊎ ((l ≡ 82) ⊎ ((l ≡ 88) ⊎ (l ≡ 90))))
 
--- what every split rule shows of its rules
+-- what every split rule shows of its rules; of its sides only where a check can ask for them
 pub record LawfulRules (r : Rules) : Type 0 where
   -- no letter that a plan uses otherwise is known
   pub fresh : (l : ℕ) → r.knows l ≡ true → Reserved l → ⊥
   -- the operands are among the bytes
   pub fits : (l : ℕ) (bytes : List ℕ) (n : ℕ) → r.width l bytes ≡ Some n → n ≤ length bytes
   -- both bans name what is there
-  pub names : (f : Floor) (trips : List Trip) (bans : List Ban) (l : ℕ) (ops : List ℕ) (left right : Ban) → Lawful f →
+  pub names : (f : Floor) (trips : List Trip) (bans : List Ban) (l : ℕ) (ops : List ℕ) (left right : Ban) → Askable f trips bans →
       r.sides f trips bans l ops ≡ Ok (left, right) → Names f trips left × Names f trips right
   -- no conflict-free set of the branch is lost
-  pub covers : (f : Floor) (trips : List Trip) (bans : List Ban) (l : ℕ) (ops : List ℕ) (left right : Ban) → Lawful f →
+  pub covers : (f : Floor) (trips : List Trip) (bans : List Ban) (l : ℕ) (ops : List ℕ) (left right : Ban) → Askable f trips bans →
       r.sides f trips bans l ops ≡ Ok (left, right) → Covered f trips bans left right

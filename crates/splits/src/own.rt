@@ -1,5 +1,5 @@
 ghost use Rattle.std.specs.Prelude.{◌≡◌};
-ghost use Rattle.splits.specs.Own.{OwnLetters, own};
+ghost use Rattle.splits.specs.Own.{OwnLetters, OwnSidesLawful, own};
 
 use crate::beside::Beside;
 use crate::corridor::Corridor;
@@ -14,6 +14,7 @@ pub type OwnRules = Beside<Vertex, Beside<Edge, Beside<Target, Corridor>>>;
 pub fn own_rules() -> OwnRules
     ensures are_our_own { ⟦<OwnRules as SplitRule>⟧.rules result ≡ own }
     ensures answer_as_their_conditions_tell { OwnLetters }
+    ensures lawful_for_all_carts_and_bans { OwnSidesLawful }
 {
     Beside {
         first: Vertex,

@@ -9,10 +9,11 @@ use Rattle.std.proofs.lemmas.Bool.{cases_lt}
 use Rattle.tally.specs.CallAnswers.{Reached}
 use Rattle.tally.specs.Calls.{Call, Closable, Takes, by_close, by_show, by_split}
 use Rattle.tally.specs.Laws.{NoRival}
-use Rattle.tally.specs.Openings.{Opening, LawfulOpening}
+use Rattle.tally.specs.Openings.{Opening, Openable, LawfulOpening}
 use Rattle.tally.specs.Tallies.{Branch, Tally, under}
 use Rattle.tally.proofs.Lists.{Among, among_cases, among_first, among_later, has_none}
-use Rattle.tally.proofs.Reaching.{kept}
+use Rattle.tally.proofs.Naming.{askable}
+use Rattle.tally.proofs.Reaching.{kept_reached}
 
 module _ (o : Opening) where
   abbrev KeptAt : RouteSet o.floor o.trips → Branch → Type 0
@@ -33,15 +34,15 @@ module _ (o : Opening) where
       ⊎_elim (λ keeps. absurd (none (record { set = s; keeps = keeps; below = below }))) (λ one. one) (among_cases (KeptAt s) b rest (covers s free below))
 
   module _ (sound : LawfulOpening o) where
-    covers_kept : (t : Tally) (c : Call) (u : Tally) → Takes o t c u → Covers t.branches → Covers u.branches
-    covers_kept t c u (by_show h) covers = covers
-    covers_kept t c u (by_split is deep many h) covers =
-        split_covers _ _ _ _ (sound.rules.covers _ _ _ _ _ _ _ sound.floor h.sides) (subst Covers is covers)
-    covers_kept t c u (by_close is none) covers = closing_covers _ _ none (subst Covers is covers)
+    covers_kept : (t : Tally) (c : Call) (u : Tally) → Reached o t → Openable o → Takes o t c u → Covers t.branches → Covers u.branches
+    covers_kept t c u reached openable (by_show h) covers = covers
+    covers_kept t c u reached openable (by_split is deep many h) covers =
+        split_covers _ _ _ _ (sound.rules.covers _ _ _ _ _ _ _ (askable o sound t reached openable _ _ is) h.sides) (subst Covers is covers)
+    covers_kept t c u reached openable (by_close is none) covers = closing_covers _ _ none (subst Covers is covers)
 
     module _ (t : Tally) (reached : Reached o t) where
       pub rivals_covered : Covers t.branches
-      rivals_covered = kept o sound (λ v. Covers v.branches) (λ v c u _. covers_kept v c u) (λ s free below. among_first (KeptAt s) _ [] (All-nil (Keeps s))) t reached
+      rivals_covered = kept_reached o sound (λ v. Covers v.branches) covers_kept (λ s free below. among_first (KeptAt s) _ [] (All-nil (Keeps s))) t reached
 
       pub none_open_no_rival : t.branches ≡ [] → NoRival o
       none_open_no_rival none s free =

@@ -28,7 +28,7 @@ stacked_few [] stack = omega arith
 stacked_few (b ∷ rest) stack = omega arith
 
 -- at most 64 splits lie above the branch, and each left it a ban
-abbrev FewBans : Branch → Type 0
+abbrev pub FewBans : Branch → Type 0
 FewBans b = (b.depth ≤ 64) × (length b.bans ≡ b.depth)
 
 stacked_bans : (bs : List Branch) → Stacked bs → All FewBans bs

@@ -3,22 +3,23 @@ use Rattle.std.proofs.Common.{◌≡◌, Bool, true, false, not, ◌&&◌, leb, 
 use Rattle.floor.specs.Tests.{every_below}
 use Rattle.floor.proofs.Chains.{ok_exactly, passes, refused, unless_tells}
 use Rattle.floor.proofs.Deciding.{decides_every_below, decides_leb, false_from_decides}
+use Rattle.motion.specs.Trips.{FewCarts, OnFloor, Apart}
 use Rattle.std.proofs.lemmas.Bool.{cases_order, cases_lt, not_from_false, not_from_true}
 use Rattle.std.proofs.lemmas.Bool.Decides.{Decides-and, Decides-eqb, Decides-like, Decides-ltb, Decides-not}
 use Rattle.tally.specs.Laws.{OpeningTells}
-use Rattle.tally.specs.Openings.{Opening, FewCarts, OnFloor, Apart, Openable, BarredBy, by_carts, by_claim, by_places, by_sharing, are_apart, carts, is_on_floor, opened}
+use Rattle.tally.specs.Openings.{Opening, Openable, BarredBy, by_carts, by_claim, by_places, by_sharing, are_apart, carts, is_on_floor, opened}
 use Rattle.tally.specs.declared.refusal.Refusal.{Refusal}
 use Rattle.tally.specs.declared.refusal.Refusal.TheVariants.{Carts, Claim, NoPlace, Shared}
 use Rattle.tally.proofs.Chaining.{refusal_told}
 
 module _ (o : Opening) where
-  decides_few : Decides (leb 1 (carts o) && leb (carts o) 16) (FewCarts o)
+  decides_few : Decides (leb 1 (carts o) && leb (carts o) 16) (FewCarts (carts o))
   decides_few = Decides-and _ _ (decides_leb 1 (carts o)) (decides_leb (carts o) 16)
 
-  decides_on_floor : Decides (every_below (is_on_floor o) (carts o)) (OnFloor o)
+  decides_on_floor : Decides (every_below (is_on_floor o) (carts o)) (OnFloor o.floor o.trips)
   decides_on_floor = decides_every_below _ _ (λ a. Decides-and _ _ (Decides-ltb _ _) (Decides-ltb _ _)) (carts o)
 
-  decides_apart : Decides (every_below (λ a. every_below (are_apart o a) a) (carts o)) (Apart o)
+  decides_apart : Decides (every_below (λ a. every_below (are_apart o a) a) (carts o)) (Apart o.trips)
   decides_apart =
       Decides-like _ (λ later a b in_a in_b differ. ⊎_elim (λ same. absurd (differ same))
       (⊎_elim (λ before. let h = later b in_b a before in (λ e. h.0 (sym e), λ e. h.1 (sym e))) (λ after. later a in_a b after)) (cases_order a b))

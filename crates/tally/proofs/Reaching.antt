@@ -48,3 +48,14 @@ filled_after o sound t c filled = (kept_after o sound (λ v. Filled v.shown) (λ
 
 pub filled : (o : Opening) → LawfulOpening o → (t : Tally) → Reached o t → Filled t.shown
 filled o sound = kept o sound (λ t. Filled t.shown) (λ t c u _. filled_kept o t c u) (All-nil Filling)
+
+-- ---- what is kept from tally to tally where each is one that is reached
+
+module _ (o : Opening) (sound : LawfulOpening o) where
+  reached_next : (t : Tally) (c : Call) (u : Tally) → Openable o → Takes o t c u → Reached o t → Reached o u
+  reached_next t c u openable taken reached =
+      subst (Reached o) (ap (tally_of t) ((call_exactly o sound t (filled o sound t reached) c u).1 (openable, taken))) (reached_more o t c reached)
+
+  pub kept_reached : (P : Tally → Type 0) → ((t : Tally) (c : Call) (u : Tally) → Reached o t → Openable o → Takes o t c u → P t → P u) → P at_start → (t : Tally) → Reached o t → P t
+  kept_reached P keeps begins t reached =
+      (kept o sound (λ v. Reached o v × P v) (λ v c u openable taken h. (reached_next v c u openable taken h.0, keeps v c u h.0 openable taken h.1)) (([], refl), begins) t reached).1

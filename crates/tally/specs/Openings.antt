@@ -1,10 +1,11 @@
 -- An opening, what it has to be, and its tests.
-use Rattle.std.specs.Prelude.{ℕ, ◌<◌, ◌≤◌, Bool, not, ◌&&◌, List, length, Ok, Result, MatchResult, ◌==◌, ◌≢◌, nat_le, nat_lt}
+use Rattle.std.specs.Prelude.{ℕ, ◌<◌, ◌≤◌, Bool, not, ◌&&◌, List, length, Ok, Result, MatchResult, ◌==◌, nat_le, nat_lt}
 use Rattle.floor.specs.Checks.{refuse, ◌>>◌}
 use Rattle.floor.specs.Floor.{Floor, Lawful}
 use Rattle.floor.specs.Tests.{every_below}
 use Rattle.motion.specs.Listed.{ListedRoute}
 use Rattle.motion.specs.Routes.{start_of, target_of}
+use Rattle.motion.specs.Trips.{FewCarts, OnFloor, Apart}
 use Rattle.motion.specs.declared.trip.Trip.{Trip}
 use Rattle.splits.specs.Rules.{Rules, LawfulRules}
 use Rattle.tally.specs.declared.refusal.Refusal.{Refusal}
@@ -31,34 +32,21 @@ pub record LawfulOpening (o : Opening) : Type 0 where
 
 -- ---- what an opening has to be
 
-abbrev pub FewCarts : Opening → Type 0
-FewCarts o = (1 ≤ carts o) × (carts o ≤ 16)
-
 abbrev pub SmallClaim : Opening → Type 0
 SmallClaim o = o.claim ≤ 4000
 
--- every start and every target is on the floor
-abbrev pub OnFloor : Opening → Type 0
-OnFloor o = (a : ℕ) → a < carts o → (start_of o.trips a < o.floor.count) × (target_of o.trips a < o.floor.count)
-
--- no two carts share a start, and no two share a target
-abbrev pub Apart : Opening → Type 0
-Apart o =
-    (a b : ℕ) → a < carts o → b < carts o → (a ≢ b)
-    → (start_of o.trips a ≢ start_of o.trips b) × (target_of o.trips a ≢ target_of o.trips b)
-
 pub record Openable (o : Opening) : Type 0 where
-  pub few_carts : FewCarts o
+  pub few_carts : FewCarts (carts o)
   pub small_claim : SmallClaim o
-  pub on_floor : OnFloor o
-  pub apart : Apart o
+  pub on_floor : OnFloor o.floor o.trips
+  pub apart : Apart o.trips
 
 -- why a check is barred: what its opening lacks first
 pub data BarredBy (o : Opening) : Refusal → Type 0 where
-  by_carts : (FewCarts o → ⊥) → BarredBy o Carts
-  by_claim : FewCarts o → 4000 < o.claim → BarredBy o Claim
-  by_places : FewCarts o → SmallClaim o → (OnFloor o → ⊥) → BarredBy o NoPlace
-  by_sharing : FewCarts o → SmallClaim o → OnFloor o → (Apart o → ⊥) → BarredBy o Shared
+  by_carts : (FewCarts (carts o) → ⊥) → BarredBy o Carts
+  by_claim : FewCarts (carts o) → 4000 < o.claim → BarredBy o Claim
+  by_places : FewCarts (carts o) → SmallClaim o → (OnFloor o.floor o.trips → ⊥) → BarredBy o NoPlace
+  by_sharing : FewCarts (carts o) → SmallClaim o → OnFloor o.floor o.trips → (Apart o.trips → ⊥) → BarredBy o Shared
 
 -- what the answer to an opening says of it
 abbrev pub Opens : Opening → Result (Unit {0}) Refusal → Type 0
