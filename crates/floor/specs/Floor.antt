@@ -1,5 +1,6 @@
 -- What a floor is, and what every floor map shows of the floor that it means.
-use Rattle.std.specs.Prelude.{◌≡◌, ℕ, ◌<◌, ◌≤◌, List, length, slice_index, slice_index_or}
+use Rattle.std.specs.Prelude.{ℕ, ◌<◌, ◌≤◌, List, length, Contains, ◌≢◌}
+use Rattle.std.specs.List.{AllPairs}
 
 -- A floor: how many places it has, numbered from 0, and the neighbours of each in their order.
 pub record Floor : Type 0 where
@@ -7,10 +8,8 @@ pub record Floor : Type 0 where
   pub next : ℕ → List ℕ
 
 -- q is listed among the neighbours of p
-pub record Joined (f : Floor) (p q : ℕ) : Type 0 where
-  pub at : ℕ
-  pub within : at < length (f.next p)
-  pub is : slice_index_or (f.next p) at 0 ≡ q
+abbrev pub Joined : Floor → ℕ → ℕ → Type 0
+Joined f p q = Contains (f.next p) q
 
 -- what every map shows of its floor
 pub record Lawful (f : Floor) : Type 0 where
@@ -24,6 +23,6 @@ pub record Lawful (f : Floor) : Type 0 where
   -- no place is its own neighbour
   pub not_its_own : (p : ℕ) → Joined f p p → ⊥
   -- no place is listed twice among the neighbours of another
-  pub once : (p i j : ℕ) → i < length (f.next p) → j < length (f.next p) → slice_index (f.next p) i ≡ slice_index (f.next p) j → i ≡ j
+  pub once : (p : ℕ) → AllPairs (λ q r. q ≢ r) (f.next p)
   -- q is listed at p exactly where p is listed at q
   pub both_ways : (p q : ℕ) → Joined f p q → Joined f q p

@@ -2,7 +2,6 @@
 use Rattle.std.specs.Prelude.{◌≡◌, ℕ, ◌+◌, ◌-◌, ◌*◌, ◌%◌, ◌<◌, ◌≤◌, true, false, [], ◌++◌, length, All, Contains, ◌==◌, ◌≢◌, nat_lt}
 use Rattle.std.proofs.Common.{inl, inr, ⊎_elim, sym, arith}
 use Rattle.floor.specs.Floor.{Joined, Lawful}
-use Rattle.floor.proofs.Neighbours.{has_from_joined, joined_from_has}
 use Rattle.std.proofs.lemmas.Nat.{mod_below, mul-le}
 use Rattle.std.proofs.lemmas.List.Elements.{All-cons, All-contains, All-nil, Contains-append_right}
 use Rattle.std.proofs.lemmas.List.Kept.{AllPairs-cons, AllPairs-filter}
@@ -10,7 +9,8 @@ use Rattle.std.proofs.lemmas.List.{get_or_past}
 use Rattle.std.proofs.lemmas.Bool.{both_ways, cases_lt, cond_both, eqb-false, le-ltb, ltb-false, ne_eqb}
 use Rattle.maps.specs.Grids.{Grid, NeighboursAreBeside, NextTo, SideBySide, Sized, above, around, below, beside, free_at, grid_floor, left, right}
 use Rattle.maps.specs.CellsLemmas.{next_from_step_right, step_down_from_sum, step_right_from_previous, step_right_to_next, sum_from_step_down}
-use Rattle.maps.specs.ListsLemmas.{Differ, all_unless, cond_has, differ_nil, differ_unless, has_from_cond, has_from_kept_by, has_unless, kept_by_has, length_kept_by_most, length_unless, once_from_differ}
+use Rattle.maps.specs.ListsLemmas.{all_unless, cond_has, has_from_cond, has_from_kept_by, has_unless, kept_by_has, length_kept_by_most, length_unless, once_unless}
+use Rattle.maps.specs.OnceLemmas.{Once, once_nil}
 
 -- ---- the cells beside a cell
 
@@ -37,13 +37,13 @@ module _ (width p : ℕ) where
       omega arith
 
 module _ (width : ℕ) (some : 1 ≤ width) (p : ℕ) where
-  beside_differ : Differ (beside width p)
-  beside_differ =
+  beside_once : Once (beside width p)
+  beside_once =
       let under = mod_below p width some in
-      differ_unless (p - width) _ _
+      once_unless (p - width) _ _
       (λ e. let up = ltb-false p width e in all_from_left width p (λ y. p - width ≢ y) (λ inner is. omega arith) (λ inner is. omega arith) (λ is. omega arith))
-      (differ_unless (p - 1) _ _ (λ e. all_from_right width p (λ y. p - 1 ≢ y) (λ inner is. omega arith) (λ is. omega arith))
-      (differ_unless (p + 1) _ _ (λ e. let inner = eqb-false (p % width + 1) width e in All-cons (λ y. p + 1 ≢ y) (p + width) [] (λ is. omega arith) (All-nil (λ y. p + 1 ≢ y))) (AllPairs-cons (λ a b. a ≢ b) (p + width) [] (All-nil (λ y. p + width ≢ y)) differ_nil)))
+      (once_unless (p - 1) _ _ (λ e. all_from_right width p (λ y. p - 1 ≢ y) (λ inner is. omega arith) (λ is. omega arith))
+      (once_unless (p + 1) _ _ (λ e. let inner = eqb-false (p % width + 1) width e in All-cons (λ y. p + 1 ≢ y) (p + width) [] (λ is. omega arith) (All-nil (λ y. p + 1 ≢ y))) (AllPairs-cons (λ a b. a ≢ b) (p + width) [] (All-nil (λ y. p + width ≢ y)) once_nil)))
 
   all_side_by_side : All (SideBySide width p) (beside width p)
   all_side_by_side =
@@ -94,14 +94,13 @@ module _ (g : Grid) (sized : Sized g) where
     where
       from_joined : Joined (grid_floor g) p q → (free_at g p ≡ true) × (free_at g q ≡ true) × SideBySide g.width p q
       from_joined joined =
-          let listed = has_from_cond (free_at g p) _ q (has_from_joined (grid_floor g) p q joined) in
+          let listed = has_from_cond (free_at g p) _ q joined in
           let kept = has_from_kept_by (free_at g) (beside g.width p) q listed.1 in
           (listed.0, kept.0, All-contains (SideBySide g.width p) (beside g.width p) q (all_side_by_side g.width sized.some_columns p) kept.1)
 
       to_joined : (free_at g p ≡ true) × (free_at g q ≡ true) × SideBySide g.width p q → Joined (grid_floor g) p q
       to_joined (free_p, free_q, side) =
-          joined_from_has (grid_floor g) p q
-          (cond_has (free_at g p) _ q free_p (kept_by_has (free_at g) (beside g.width p) q free_q (has_beside g.width sized.some_columns p q side)))
+          cond_has (free_at g p) _ q free_p (kept_by_has (free_at g) (beside g.width p) q free_q (has_beside g.width sized.some_columns p q side))
 
   few_around : (p : ℕ) → length (around g p) ≤ 4
   unfolding around
@@ -110,10 +109,10 @@ module _ (g : Grid) (sized : Sized g) where
       let kept_most = length_kept_by_most (free_at g) (beside g.width p) in
       cond_both (free_at g p) _ [] (λ l. length l ≤ 4) (λ _. omega arith) (λ _. omega arith)
 
-  around_differ : (p : ℕ) → Differ (around g p)
+  around_once : (p : ℕ) → Once (around g p)
   unfolding around
-  around_differ p =
-      cond_both (free_at g p) _ [] Differ (λ _. AllPairs-filter (λ a b. a ≢ b) (free_at g) _ (beside_differ g.width sized.some_columns p)) (λ _. differ_nil)
+  around_once p =
+      cond_both (free_at g p) _ [] Once (λ _. AllPairs-filter (λ a b. a ≢ b) (free_at g) _ (beside_once g.width sized.some_columns p)) (λ _. once_nil)
 
   pub grid_lawful : Lawful (grid_floor g)
   grid_lawful =
@@ -123,6 +122,6 @@ module _ (g : Grid) (sized : Sized g) where
         at_most_8_neighbours = λ p. omega (arith, few_around p);
         on_floor = λ p q j. let b = (neighbours_are_beside p q).0 j in (free_is_on_floor p b.0, free_is_on_floor q b.1);
         not_its_own = λ p j. never_beside_itself g.width p ((neighbours_are_beside p p).0 j).2;
-        once = λ p. once_from_differ (around g p) (around_differ p);
+        once = around_once;
         both_ways = λ p q j. let b = (neighbours_are_beside p q).0 j in (neighbours_are_beside q p).1 (b.1, b.0, side_by_side_back g.width p q b.2);
       }

@@ -1,13 +1,12 @@
 -- Lists in general: what a filter keeps, a list with no number twice, and one that is there only under a test. Speaks
 -- of no floor.
 use Rattle.std.specs.Prelude.{◌≡◌, ℕ, ◌+◌, ◌≤◌, Bool, true, false, cond, not, List, [], ◌∷◌, ◌++◌, length, All, Contains, filter, ◌≢◌, refl}
-use Rattle.std.proofs.Common.{⊎_elim, sym, arith}
-use Rattle.std.specs.List.{AllPairs}
+use Rattle.std.proofs.Common.{arith}
 use Rattle.std.proofs.lemmas.List.Kept.{AllPairs-cons}
 use Rattle.maps.specs.OnceLemmas.{Once}
 use Rattle.std.proofs.lemmas.List.Elements.{All-nil, All-cons, All-weaker, All-contains, All-contains_itself, All-filter, Contains-append_right, filter_passes}
 use Rattle.std.proofs.lemmas.List.Filters.{length-filter_both}
-use Rattle.std.proofs.lemmas.Bool.{both_ways, cases_lt, cond_both, false≢true, true≢false}
+use Rattle.std.proofs.lemmas.Bool.{both_ways, cond_both, false≢true, true≢false}
 
 -- ---- what a filter keeps
 
@@ -31,18 +30,6 @@ module _ {X : Type 0} (test : X → Bool) where
   pub length_kept_by_most : (xs : List X) → length (filter test xs) ≤ length xs
   length_kept_by_most xs = omega (arith, length-filter_both test (λ x. not (test x)) (λ _. refl) xs)
 
--- ---- no number twice
-
-abbrev pub Differ : List ℕ → Type 0
-Differ = AllPairs (λ x y. x ≢ y)
-
-pub differ_nil : Differ []
-differ_nil i j d before within = absurd (omega arith)
-
-pub once_from_differ : (xs : List ℕ) → Differ xs → Once xs
-once_from_differ xs h i j hi hj e =
-    ⊎_elim (λ lt. absurd (h i j 0 lt hj e)) (λ ge. ⊎_elim (λ lt. absurd (h j i 0 lt hi (sym e))) (λ le. omega arith) (cases_lt j i)) (cases_lt i j)
-
 -- ---- a list that is there only under a test
 
 pub has_from_cond : {X : Type 0} (b : Bool) (xs : List X) (x : X) → Contains (cond b xs []) x → (b ≡ true) × Contains xs x
@@ -60,9 +47,9 @@ module _ (x : ℕ) (ys : List ℕ) where
   all_unless P true h k = k
   all_unless P false h k = All-cons P x ys (h refl) k
 
-  pub differ_unless : (b : Bool) → (b ≡ false → All (λ y. x ≢ y) ys) → Differ ys → Differ (cond b [] (x ∷ []) ++ ys)
-  differ_unless true h k = k
-  differ_unless false h k = AllPairs-cons (λ a b. a ≢ b) x ys (h refl) k
+  pub once_unless : (b : Bool) → (b ≡ false → All (λ y. x ≢ y) ys) → Once ys → Once (cond b [] (x ∷ []) ++ ys)
+  once_unless true h k = k
+  once_unless false h k = AllPairs-cons (λ a b. a ≢ b) x ys (h refl) k
 
   pub has_unless : (b : Bool) (y : ℕ) → b ≡ false → x ≡ y → Contains (cond b [] (x ∷ []) ++ ys) y
   has_unless true y off is = absurd (true≢false off)

@@ -1,5 +1,6 @@
 -- Routes, their lengths, sets of them and their conflicts.
-use Rattle.std.specs.Prelude.{◌≡◌, ℕ, zero, suc, ◌+◌, ◌<◌, ◌≤◌, ◌⊎◌, List, length, ◌≢◌, slice_index_or}
+use Rattle.std.specs.Prelude.{◌≡◌, ℕ, suc, ◌<◌, ◌≤◌, ◌⊎◌, List, length, map, ◌≢◌, slice_index_or}
+use Rattle.std.specs.List.{range_with_len, sum}
 use Rattle.floor.specs.Floor.{Floor, Joined}
 use Rattle.motion.specs.declared.trip.Trip.{Trip}
 
@@ -33,8 +34,7 @@ pub record Route (f : Floor) (start target : ℕ) (r : ℕ → ℕ) (len : ℕ) 
 
 -- the sum of what f gives below n
 abbrev pub total : ℕ → (ℕ → ℕ) → ℕ
-total zero f = 0
-total (suc n) f = total n f + f n
+total n f = sum (map f (range_with_len 0 n))
 
 -- a set: one route for each cart
 pub record RouteSet (f : Floor) (trips : List Trip) : Type 0 where

@@ -1,6 +1,7 @@
 -- A place is marked in the row of tick u exactly where a walk of u steps ends there.
 use Rattle.std.proofs.Common.{◌≡◌, ℕ, zero, suc, ◌<◌, ◌≤◌, Bool, true, cond, leb, ◌⊎◌, List, get_or, Decides, sym, refl, ◌∙◌, subst, inl, inr, ⊎_elim, arith}
 use Rattle.std.proofs.lemmas.List.{get_or_default}
+use Rattle.std.proofs.lemmas.List.Elements.{Contains-get_or}
 use Rattle.std.proofs.lemmas.Bool.{cond-true, cond-false, le-leb, lt-leb}
 use Rattle.std.proofs.lemmas.Bool.Decides.{Decides-and, Decides-or, Decides-eqb, Decides-like}
 use Rattle.std.proofs.lemmas.Grind.{common_steps}
@@ -19,9 +20,8 @@ use Rattle.search.proofs.Tells.{CanBe, CanGo, decides_can_be, decides_can_go}
 pub decides_some_next : (f : Floor) (p : ℕ) (g : ℕ → Bool) (P : ℕ → Type 0) → ((q : ℕ) → Decides (g q) (P q))
     → Decides (some g (f.next p)) ((q : ℕ) × Joined f p q × P q)
 decides_some_next f p g P each =
-    Decides-like _ (λ h. (get_or (f.next p) h.0 0, record { at = h.0; within = h.1; is = refl }, h.2 0))
-    (λ h. let j = h.1 in
-    (j.at, j.within, λ d. subst P (sym (get_or_default (f.next p) j.at d 0 j.within ∙ j.is)) h.2))
+    Decides-like _ (λ h. (get_or (f.next p) h.0 0, Contains-get_or (f.next p) h.0 0 h.1, h.2 0))
+    (λ h. let j = h.1 in (j.0, j.1, λ d. subst P (sym (get_or_default (f.next p) j.0 d h.0 j.1 ∙ j.2)) h.2))
     (decides_some g P each (f.next p))
 
 -- r up to tick n, and q ever after

@@ -67,6 +67,7 @@ impl<'a, M: FloorMap> Branch<'a, M> {
 
     // Whether the cart can be at the place at some tick before the given one, as `can_stand` tells of one tick, under one
     // ban more where there is one. A loop over ticks, since each row is made from the row before it.
+    #[tactic(auto, using(floor::proofs::Deciding::some_below_more))]
     pub fn stands_before(
         &self,
         work: &mut Workspace,

@@ -53,6 +53,7 @@ impl<'a, M: FloorMap> CartSearch<'a, M> {
 
     // Writes the row of tick `t` from the row of the tick before. Each row has a mark for every place of the floor: that is
     // asked here, since a slice that is lent does not tell it.
+    #[tactic(auto, using(floor::proofs::Deciding::some_below_more))]
     pub fn step(&self, t: Tick, row: &[bool], next: &mut [bool])
         requires row { length row.now ≡ (M.floor self.now.map.now).count }
         requires next { length next.old ≡ (M.floor self.now.map.now).count }

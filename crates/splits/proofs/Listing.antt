@@ -1,12 +1,14 @@
 -- The places of a corridor as the code has them, in a list.
-use Rattle.std.proofs.Common.{◌≡◌, ℕ, zero, suc, pred, ◌+◌, ◌-◌, ◌<◌, ◌≤◌, Bool, true, false, not, ◌&&◌, ◌||◌, nat_eq, List, [], ◌∷◌, ◌++◌, length, get_or, take, drop, set, Some, None, Option, unwrap_or, sym, refl, ap, ◌∙◌, ap₂, arith, cond}
-use Rattle.std.specs.List.{list_any, list_all, find, enumerate_from}
+use Rattle.std.proofs.Common.{◌≡◌, ℕ, zero, suc, pred, ◌+◌, ◌-◌, ◌<◌, ◌≤◌, Bool, true, false, not, ◌&&◌, ◌||◌, nat_eq, List, [], ◌∷◌, ◌++◌, length, get_or, take, drop, set, Some, None, Option, unwrap_or, ◌≢◌, sym, refl, ap, ◌∙◌, ap₂, zero-add, arith, cond}
+use Rattle.std.specs.List.{AllPairs, list_any, list_all, find, enumerate_from}
 use Rattle.std.specs.Option.{option_map}
 use Rattle.std.proofs.lemmas.Bool.Decides.{nat_tests}
 use Rattle.std.proofs.lemmas.Cmp.{nat_eq_equiv}
+use Rattle.std.proofs.lemmas.List.FromFn.{get_or-enumerate_from, length-enumerate_from}
 use Rattle.std.proofs.lemmas.List.{get_or-take, length-set, length-take-le, take_more_set, map-append, append_assoc}
 use Rattle.floor.specs.Floor.{Floor}
 use Rattle.floor.specs.Tests.{every_below}
+use Rattle.floor.proofs.Deciding.{every_by_number}
 use Rattle.floor.specs.declared.Place.{Place}
 use Rattle.floor.specs.Numbers.{numbers}
 use Rattle.splits.specs.Corridor.{place}
@@ -19,33 +21,19 @@ listed_place (p ∷ ps) (suc i) = listed_place ps i
 
 -- ---- a test of each element of a list, as a test of each number below a bound
 
-and_swap : (a b c : Bool) → (a && (b && c)) ≡ (b && (a && c))
-and_swap true b c = refl
-and_swap false true c = refl
-and_swap false false c = refl
-
-every_first : (p : ℕ → Bool) (n : ℕ) → every_below p (suc n) ≡ (p 0 && every_below (λ i. p (suc i)) n)
-every_first p zero = refl
-every_first p (suc n) = ap (λ b. p (suc n) && b) (every_first p n) ∙ and_swap (p (suc n)) (p 0) (every_below (λ i. p (suc i)) n)
-
 pub every_taken : {A : Type 0} (Q : A → Bool) (p : ℕ → Bool) (d : A) (xs : List A) (n : ℕ) → n ≤ length xs →
     ((i : ℕ) → i < n → p i ≡ Q (get_or xs i d)) → list_all Q (take n xs) ≡ every_below p n
-every_taken Q p d xs zero short same = refl
-every_taken Q p d [] (suc n) short same = absurd (omega arith)
-every_taken Q p d (x ∷ xs) (suc n) short same =
-    ap₂ (λ a b. a && b) (sym (same 0 (omega arith))) (every_taken Q (λ i. p (suc i)) d xs n (omega arith) (λ i h. same (suc i) (omega arith))) ∙ sym (every_first p n)
+every_taken Q p d xs n short same =
+    let few = length-take-le n xs short in
+    every_by_number Q p (take n xs) d (λ i lt. ap Q (get_or-take n xs i d (omega arith)) ∙ sym (same i (omega arith))) ∙ ap (every_below p) few
 
-every_numbered : {A : Type 0} (Q : ℕ × A → Bool) (p : ℕ → Bool) (d : A) (from : ℕ) (xs : List A) →
-    ((i : ℕ) → i < length xs → p i ≡ Q (from + i, get_or xs i d)) → list_all Q (enumerate_from from xs) ≡ every_below p (length xs)
-every_numbered Q p d from [] same = refl
-every_numbered Q p d from (x ∷ xs) same =
-    ap₂ (λ a b. a && b) (first ∙ sym (same 0 (omega arith))) (every_numbered Q (λ i. p (suc i)) d (from + 1) xs rest) ∙ sym (every_first p (length xs))
+every_numbered : {A : Type 0} (Q : ℕ × A → Bool) (p : ℕ → Bool) (d : A) (xs : List A) →
+    ((i : ℕ) → i < length xs → p i ≡ Q (i, get_or xs i d)) → list_all Q (enumerate_from 0 xs) ≡ every_below p (length xs)
+every_numbered Q p d xs same =
+    every_by_number Q p (enumerate_from 0 xs) (0, d) (λ i lt. ap Q (get_or-enumerate_from 0 xs i (0, d) (omega (arith, many)) ∙ ap (λ k. (k, get_or xs i d)) (zero-add i)) ∙ sym (same i (omega (arith, many)))) ∙ ap (every_below p) many
   where
-    first : Q (from, x) ≡ Q (from + 0, x)
-    first = let e : from ≡ from + 0 = omega arith in ap (λ n. Q (n, x)) e
-
-    rest : (i : ℕ) → i < length xs → p (suc i) ≡ Q (from + 1 + i, get_or xs i d)
-    rest i h = let e : from + suc i ≡ from + 1 + i = omega arith in same (suc i) (omega arith) ∙ ap (λ n. Q (n, get_or xs i d)) e
+    many : length (enumerate_from 0 xs) ≡ length xs
+    many = length-enumerate_from 0 xs
 
 not_or : (a b c : Bool) → not b ≡ c → not (a || b) ≡ (not a && c)
 not_or true b c e = refl
@@ -76,7 +64,7 @@ not_inner start ps k some short =
 pub all_new : (ps : List Place) (n : ℕ) → n ≤ length ps →
     list_all (λ e. not (list_any (λ y. nat_eq y.0 e.1.0) (take e.0 (take n ps)))) (enumerate_from 0 (take n ps)) ≡ all_differ (listed_at (numbers ps)) n
 all_new ps n short =
-    every_numbered (λ e. not (list_any (λ y. nat_eq y.0 e.1.0) (take e.0 xs))) (is_new (listed_at (numbers ps))) (place 0) 0 xs new ∙
+    every_numbered (λ e. not (list_any (λ y. nat_eq y.0 e.1.0) (take e.0 xs))) (is_new (listed_at (numbers ps))) (place 0) xs new ∙
     ap (all_differ (listed_at (numbers ps))) (length-take-le n ps short)
   where
     xs : List Place
@@ -85,18 +73,17 @@ all_new ps n short =
     at : (i : ℕ) → i < length xs → listed_at (numbers ps) i ≡ (get_or xs i (place 0)).0
     at i h = listed_place ps i ∙ ap (λ p. p.0) (sym (get_or-take n ps i (place 0) (omega (arith, length-take-le n ps short))))
 
-    new : (i : ℕ) → i < length xs → is_new (listed_at (numbers ps)) i ≡ not (list_any (λ y. nat_eq y.0 (get_or xs i (place 0)).0) (take (0 + i) xs))
+    new : (i : ℕ) → i < length xs → is_new (listed_at (numbers ps)) i ≡ not (list_any (λ y. nat_eq y.0 (get_or xs i (place 0)).0) (take i xs))
     new i h =
-        let e : 0 + i ≡ i = omega arith in
-        rw e (sym (none_all (λ y. nat_eq y.0 (get_or xs i (place 0)).0) (take i xs) ∙
-        every_taken (λ y. not (nat_eq y.0 (get_or xs i (place 0)).0)) _ (place 0) xs i (omega arith) (λ j lt. ap₂ (λ m n. not (nat_eq m n)) (at j (omega arith)) (at i h))))
+        sym (none_all (λ y. nat_eq y.0 (get_or xs i (place 0)).0) (take i xs) ∙
+        every_taken (λ y. not (nat_eq y.0 (get_or xs i (place 0)).0)) _ (place 0) xs i (omega arith) (λ j lt. ap₂ (λ m n. not (nat_eq m n)) (at j (omega arith)) (at i h)))
 
 -- the first neighbour that is not p, where no two are the same
-pub first_other : (xs : List ℕ) (p : ℕ) → ((i j : ℕ) → i < length xs → j < length xs → get_or xs i 0 ≡ get_or xs j 0 → i ≡ j) →
+pub first_other : (xs : List ℕ) (p : ℕ) → AllPairs (λ x y. x ≢ y) xs →
     unwrap_or (find (λ n. not (nat_eq n p)) xs) 0 ≡ cond (nat_eq (get_or xs 0 0) p) (get_or xs 1 0) (get_or xs 0 0)
 first_other [] p once = grind (arith, nat_tests)
 first_other (x ∷ []) p once = grind (arith, nat_tests)
-first_other (x ∷ y ∷ ys) p once = grind (arith, nat_tests, once 0 1)
+first_other (x ∷ y ∷ ys) p once = grind (arith, nat_tests, once 0 1 0)
 
 pub or_place_0 : (o : Option Place) → (unwrap_or o (place 0)).0 ≡ unwrap_or (option_map (λ q. q.0) o) 0
 or_place_0 (Some q) = refl

@@ -3,6 +3,7 @@ use Rattle.std.specs.Prelude.{◌≡◌, ℕ, zero, suc, pred, ◌+◌, ◌<◌,
 use Rattle.std.proofs.Common.{⊎_elim, sym, ap₂, subst, ◌∙◌, arith}
 use Rattle.std.proofs.lemmas.Bool.{cond_both, eqb-true, eqb-false, cases_order}
 use Rattle.std.proofs.lemmas.Bool.Decides.{Decides-eqb, Decides-like, Decides-not}
+use Rattle.std.proofs.lemmas.List.Elements.{Contains-get_or}
 use Rattle.floor.specs.Floor.{Floor, Joined, Lawful}
 use Rattle.floor.specs.Tests.{every_below}
 use Rattle.floor.proofs.Deciding.{decides_and3, decides_every_below}
@@ -43,11 +44,11 @@ same_onward f c d k oc od from by (suc (suc i)) h =
 module _ (f : Floor) (p q : ℕ) (two : length (f.next q) ≡ 2) where
   onward_joined : Joined f q (onward f p q)
   onward_joined = cond_both (slice_index (f.next q) 0 == p) (slice_index (f.next q) 1) (slice_index (f.next q) 0) (Joined f q)
-      (λ _. record { at = 1; within = omega arith; is = refl }) (λ _. record { at = 0; within = omega arith; is = refl })
+      (λ _. Contains-get_or (f.next q) 1 0 (omega arith)) (λ _. Contains-get_or (f.next q) 0 0 (omega arith))
 
   onward_other : Lawful f → onward f p q ≢ p
   onward_other law = cond_both (slice_index (f.next q) 0 == p) (slice_index (f.next q) 1) (slice_index (f.next q) 0) (λ n. n ≢ p)
-      (λ e second. omega (arith, law.once q 0 1 (omega arith) (omega arith) (eqb-true _ _ e ∙ sym second)))
+      (λ e second. law.once q 0 1 0 (omega arith) (omega arith) (eqb-true _ _ e ∙ sym second))
       (eqb-false (slice_index (f.next q) 0) p)
 
 pub corridor_onward : (f : Floor) → Lawful f → (c : ℕ → ℕ) (k : ℕ) → Corridor f c k → Onward f c k

@@ -1,7 +1,8 @@
 -- Beside an inner place of a corridor are the place before it and the place after it, and no other.
-use Rattle.std.specs.Prelude.{◌≡◌, ℕ, suc, ◌⊎◌, length, slice_index}
+use Rattle.std.specs.Prelude.{◌≡◌, ℕ, suc, ◌⊎◌, get_or, length}
 use Rattle.std.proofs.Common.{inl, inr, ⊎_elim, sym, ap, subst, ◌∙◌, arith}
 use Rattle.std.proofs.lemmas.Bool.{cases_eq}
+use Rattle.std.proofs.lemmas.List.{get_or_default}
 use Rattle.floor.specs.Floor.{Floor, Joined, Lawful}
 use Rattle.motion.specs.Routes.{Step}
 use Rattle.splits.specs.Corridor.{Inner, Corridor}
@@ -11,11 +12,11 @@ module _ (f : Floor) (law : Lawful f) (c : ℕ → ℕ) (k : ℕ) (way : Corrido
   -- an inner place has no neighbour but the place before it and the place after it
   pub beside_inner : (i q : ℕ) → Inner k (suc i) → Joined f (c (suc i)) q → (q ≡ c i) ⊎ (q ≡ c (suc (suc i)))
   beside_inner i q inner to =
-      ⊎_elim (λ e. inl (same q (c i) to prior e)) (λ ne. inr (same q (c (suc (suc i))) to after (omega (arith, two, prior.within, after.within, apart))))
-      (cases_eq to.at prior.at)
+      ⊎_elim (λ e. inl (same q (c i) to prior e)) (λ ne. inr (same q (c (suc (suc i))) to after (omega (arith, two, prior.1, after.1, apart))))
+      (cases_eq to.0 prior.0)
     where
-      same : (v w : ℕ) (j : Joined f (c (suc i)) v) (l : Joined f (c (suc i)) w) → j.at ≡ l.at → v ≡ w
-      same v w j l e = sym j.is ∙ ap (λ n. slice_index (f.next (c (suc i))) n) e ∙ l.is
+      same : (v w : ℕ) (j : Joined f (c (suc i)) v) (l : Joined f (c (suc i)) w) → j.0 ≡ l.0 → v ≡ w
+      same v w j l e = sym j.2 ∙ ap (λ n. get_or (f.next (c (suc i))) n v) e ∙ get_or_default _ l.0 v w l.1 ∙ l.2
 
       prior : Joined f (c (suc i)) (c i)
       prior = law.both_ways (c i) (c (suc i)) (way.joins i (omega arith))
@@ -26,7 +27,7 @@ module _ (f : Floor) (law : Lawful f) (c : ℕ → ℕ) (k : ℕ) (way : Corrido
       two : length (f.next (c (suc i))) ≡ 2
       two = way.narrow (suc i) inner
 
-      apart : prior.at ≡ after.at → ⊥
+      apart : prior.0 ≡ after.0 → ⊥
       apart e = omega (arith, way.differ i (suc (suc i)) (omega arith) inner.1 (same (c i) (c (suc (suc i))) prior after e))
 
   -- so a cart at an inner place was there, or at one of these two, the tick before

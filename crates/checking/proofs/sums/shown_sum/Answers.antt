@@ -1,4 +1,4 @@
-use Rattle.std.proofs.Common.{ℕ, [], unwrap_or, ◌∙◌, refl, arith, rules}
+use Rattle.std.proofs.Common.{ℕ, [], unwrap_or, refl, arith, rules}
 use borrow.Author.Tests.{tests}
 use Rattle.motion.specs.Listed.{steps}
 use Rattle.std.proofs.lemmas.Iterator.Adapters.{at_most_from_yields_List, fits_from_length}
@@ -7,7 +7,6 @@ use Rattle.std.proofs.lemmas.Iterator.{YieldsList-from_map, YieldsList-from_rang
 use Rattle.std.proofs.lemmas.List.FromFn.{length-range_with_len}
 use Rattle.tally.specs.Tallies.{places_of}
 use Rattle.checking.specs.ShownRoutes.{shown_in}
-use Rattle.tally.proofs.Totals.{sum_below}
 use Rattle.checking.proofs.sums.shown_sum.Goals as goal
 
 pub sum-requires-clause-fits : goal.sum-requires-clause-fits
@@ -22,4 +21,3 @@ returns c =
     let taken = λ (a : ℕ). steps (unwrap_or (places_of (shown_in c.args.routes.now) a) []) in
     sum_from_yields_List c.map.result _ c.sum.ensures.ran
     (YieldsList-from_map _ taken (YieldsList-at c.map.ensures.source (YieldsList-from_range 0 n n refl (omega arith))) c.map.ensures.closure (λ a r q called. search (rules, tests)))
-    ∙ sum_below taken n

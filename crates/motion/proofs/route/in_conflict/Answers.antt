@@ -1,6 +1,5 @@
-use Rattle.std.proofs.Common.{◌≡◌, rules, arith, refl, max, length, ◌∙◌}
+use Rattle.std.proofs.Common.{◌≡◌, rules, arith, refl, max, length}
 use Rattle.floor.specs.Tests.{some_below}
-use Rattle.floor.proofs.Deciding.{some_in_range}
 use Rattle.std.proofs.lemmas.Bool.Decides.{nat_tests}
 use Rattle.std.proofs.lemmas.Iterator.{YieldsList-from_range}
 use Rattle.std.proofs.lemmas.Iterator.Search.{any_from_yields_List}
@@ -14,7 +13,7 @@ pub returns-then-not-is_empty-2-clause-answer : goal.returns-then-not-is_empty-2
 returns-then-not-is_empty-2-clause-answer c =
     let clashes = clash (place_at (numbers c.args.a.now)) (place_at (numbers c.args.b.now)) in
     let some : c.any.result ≡ some_below clashes (max (length c.args.a.now) (length c.args.b.now)) =
-    any_from_yields_List clashes _ _ _ c.any.ensures.ran (YieldsList-from_range 0 _ _ refl (omega arith)) (λ t b q k. search rules) ∙ some_in_range clashes _
+    any_from_yields_List clashes _ _ _ c.any.ensures.ran (YieldsList-from_range 0 _ _ refl (omega arith)) (λ t b q k. search rules)
     in
     search (rules, nat_tests, conflict_read)
 

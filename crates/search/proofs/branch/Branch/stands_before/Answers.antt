@@ -1,6 +1,6 @@
 use Rattle.std.proofs.Common.{◌≡◌, ℕ, true, rules, sym, arith}
 use Rattle.std.proofs.lemmas.Bool.Decides.{Decides-at}
-use Rattle.floor.proofs.Deciding.{some_below_holds}
+use Rattle.floor.proofs.Deciding.{some_below_holds, some_below_more}
 use Rattle.search.specs.BanLists.{with_one}
 use Rattle.search.specs.Rows.{can_stand}
 use Rattle.search.proofs.Standing.{decides_stands_before, gone_never_before}
@@ -19,5 +19,8 @@ returns-then-marks g c =
     let is = sym (some_below_holds stands c.loop-u.u c.args.tick.0 (omega (arith, c.in-Some.ensures)) here) in
     record { computed = is; means = Decides-at _ _ is (decides_stands_before _ _ _ _ (g.met.M.FloorMap.lawful _) _ _) }
 
+pub returns-clause-computed : goal.returns-clause-computed
+returns-clause-computed g c = search (rules, some_below_more)
+
 pub returns-clause-means : goal.returns-clause-means
-returns-clause-means g c = Decides-at _ _ (search rules) (decides_stands_before _ _ _ _ (g.met.M.FloorMap.lawful _) _ _)
+returns-clause-means g c = Decides-at _ _ (search (rules, some_below_more)) (decides_stands_before _ _ _ _ (g.met.M.FloorMap.lawful _) _ _)

@@ -1,12 +1,11 @@
 use Rattle.std.proofs.Common.{◌≡◌, ◌<◌, ◌∷◌, ℕ, All, refl, arith}
 use Rattle.std.proofs.lemmas.Grind.{common_steps}
-use Rattle.std.proofs.lemmas.List.{get_or_default}
-use Rattle.std.proofs.lemmas.List.Elements.{All-tail}
+use Rattle.std.proofs.lemmas.List.Elements.{All-tail, Contains-get_or}
 use Rattle.floor.specs.Floor.{Floor, Lawful}
 use Rattle.search.proofs.cart_search.CartSearch.push_from.Goals as goal
 
 neighbours_on_floor : (f : Floor) → Lawful f → (p : ℕ) → All (λ q. q < f.count) (f.next p)
-neighbours_on_floor f law p = λ k d lt. (law.on_floor p _ (record { at = k; within = lt; is = get_or_default (f.next p) k 0 d lt })).1
+neighbours_on_floor f law p = λ k d lt. (law.on_floor p _ (Contains-get_or (f.next p) k d lt)).1
 
 pub loop-q-init : goal.loop-q-init
 loop-q-init g c =
