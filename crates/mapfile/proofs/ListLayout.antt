@@ -1,5 +1,5 @@
 -- A list file is read exactly when it is laid out as one, and has a fault exactly where it is the first.
-use Rattle.std.proofs.Common.{◌≡◌, ℕ, ◌+◌, ◌≤◌, List, [], ◌∷◌, ◌++◌, length, drop, Ok, Err, Result, MatchResult, refl, sym, ap, ap₂, ◌∙◌, subst, zero-add, arith}
+use Rattle.std.proofs.Common.{◌≡◌, ℕ, ◌+◌, List, [], ◌∷◌, ◌++◌, length, Ok, Err, Result, MatchResult, refl, sym, ap, ◌∙◌, subst, zero-add, arith}
 use Rattle.std.proofs.lemmas.List.{append-nil}
 use Rattle.std.proofs.lemmas.Result.{MatchResult-at_ok, MatchResult-at_err, MatchResult-weaker}
 use Rattle.cursor.proofs.Commands.{bytes_behind, operands_missed, operands_read, operands_tell}
@@ -18,7 +18,7 @@ use Rattle.mapfile.specs.Faults.{fault}
 use Rattle.mapfile.specs.ListFiles.{blame, connecting, list_reading, told}
 use Rattle.mapfile.specs.ListLayout.{count_text, list_text, ListReadExactly, ListFault, at_beginning, at_command, NoBeginning, NoContinuing, no_count, count_refused, ListFaultsExactly}
 use Rattle.mapfile.specs.declared.fault.Fault.{Fault}
-use Rattle.mapfile.proofs.ListCommands.{Reads, Stops, extended, texts, connecting_halts, connecting_on, connecting_tells}
+use Rattle.mapfile.proofs.ListCommands.{extended, texts, connecting_halts, connecting_on, connecting_tells}
 
 -- what comes of the operands of `P`
 abbrev numbered : Result (List ℕ × Rest) Missing → Result (ℕ × Rest) Fault

@@ -2,7 +2,6 @@
 use Rattle.std.specs.Prelude.{ℕ}
 use Rattle.cursor.specs.Rests.{Rest, rest_of}
 use Rattle.cursor.specs.declared.reader.Cursor.{Cursor}
-use Rattle.maps.specs.declared.connection.Connection.{Connection}
 use Rattle.maps.specs.declared.refusal.MapError.{MapError}
 use Rattle.maps.specs.declared.refusal.MapError.TheVariants.{Refused, NoMemory as MapNoMemory}
 use Rattle.mapfile.specs.Faults.{fault}
