@@ -5,7 +5,7 @@ use Rattle.maps.specs.declared.refusal.MapRefusal.TheVariants.{Ragged}
 use Rattle.mapfile.specs.Faults.{fault, fault_of}
 use Rattle.mapfile.specs.GridFiles.{before_cells, body, cell}
 use Rattle.mapfile.specs.GridReads.{ReadsCell, ReadsRow, after_cells}
-use Rattle.mapfile.specs.declared.cursor.Cursor.{Cursor}
+use Rattle.cursor.specs.declared.reader.Cursor.{Cursor}
 use Rattle.mapfile.specs.declared.fault.Fault.{Fault}
 use Rattle.mapfile.specs.declared.fault.ReadError.{ReadError}
 use Rattle.mapfile.specs.declared.fault.ReadError.TheVariants.{Fault as Faulty, NoMemory}

@@ -1,7 +1,8 @@
 ghost use Rattle.std.specs.Prelude.{◌≡◌, Some};
-ghost use Rattle.mapfile.specs.Faults.{fault, fault_text, error_text};
+ghost use Rattle.mapfile.specs.Faults.{fault, fault_text, error_text, missing_fault};
 ghost use Rattle.mapfile.specs.declared.fault.ReadError.TheVariants.{Fault as Faulty, NoMemory};
 
+use cursor::{Lack, Missing};
 use maps::MapRefusal;
 use std::alloc::AllocFailed;
 use std::error::Error;
@@ -28,6 +29,18 @@ impl Fault {
         ensures { result ≡ fault refusal offset }
     {
         Fault { refusal, offset }
+    }
+}
+
+impl From<Missing> for Fault {
+    ghost from_gives = { λ m f. f ≡ missing_fault m };
+
+    fn from(missing: Missing) -> Fault {
+        let refusal = match missing.lack {
+            Lack::Letter => MapRefusal::Letter,
+            Lack::CutShort => MapRefusal::CutShort,
+        };
+        Fault::new(refusal, missing.offset)
     }
 }
 

@@ -1,4 +1,4 @@
-use Rattle.std.proofs.Common.{◌≡◌, ℕ, ◌<◌, [], ◌∷◌, length, get_or-take, take, length-take, min, refl, arith}
+use Rattle.std.proofs.Common.{◌≡◌, ℕ, ◌+◌, ◌<◌, [], ◌∷◌, length, get_or-take, take, length-take, min, refl, arith}
 use Rattle.mapfile.proofs.RowSteps.{sign_read, sign_faulty, row_ends, row_breaks}
 use Rattle.std.proofs.lemmas.Result.{err_from_is_err_and}
 use Rattle.std.proofs.lemmas.Slice.{pushed}
@@ -35,5 +35,7 @@ returns-then-ne c =
 pub returns : goal.returns
 returns c rows =
     let read : c.loop-i.i ≡ min c.args.width (length c.args.row.bytes.now) = omega (arith, length-take {A = ℕ}) in
-    rw (c.behind.ensures.at, c.behind.ensures.bytes)
-    (row_ends _ _ rows c.args.width c.args.row.at c.loop-i.i c.args.row.bytes.now (c.loop-i.invariant rows) read (grind arith) (grind arith))
+    let there : c.args.width < length c.args.row.bytes.now = grind arith in
+    let ends : c.behind.result.at ≡ c.args.row.at + (c.args.width + 1) = omega arith in
+    rw (ends, c.behind.ensures.bytes)
+    (row_ends _ _ rows c.args.width c.args.row.at c.loop-i.i c.args.row.bytes.now (c.loop-i.invariant rows) read there (grind arith))
