@@ -1,5 +1,4 @@
 // The calls of a plan, told one by one with their answers.
-use crate::bans::Bans;
 use crate::opening::tell_fault;
 use crate::words::Operands;
 use checking::{Check, Terms, open};
@@ -17,7 +16,6 @@ use tally::{Refusal, Standing, Verdict};
 struct Splitting<'a> {
     map: &'a AnyMap,
     trips: &'a [Trip],
-    bans: Bans,
     work: Workspace,
 }
 
@@ -33,7 +31,6 @@ pub fn tell_check(
     let mut with = Splitting {
         map,
         trips,
-        bans: Bans::new(rt.alloc()),
         work: Workspace::new(rt.alloc())?,
     };
     let (mut check, card) = open(Terms {
@@ -107,9 +104,6 @@ fn tell_command(
             println!(rt; "close")?;
             let answer = check.close(&mut with.work);
             tell_answer(rt, answer)?;
-            if answer.is_ok() {
-                with.bans.close()?;
-            }
             Ok(answer)
         }
     }
@@ -136,24 +130,30 @@ fn tell_split(
         bytes: behind,
     };
     println!(rt; "split {name}: {operands}")?;
-    let sides = with.sides(letter, behind);
+    let sides = check
+        .current_bans()
+        .map(|bans| with.sides(bans, letter, behind));
     let answer = check.split(&mut with.work, letter, behind);
     tell_answer(rt, answer)?;
-    if let (Ok(()), Ok((left, right))) = (answer, sides) {
+    if let (Ok(()), Some(Ok((left, right)))) = (answer, sides) {
         println!(rt; "    left: {left}")?;
         println!(rt; "    right: {right}")?;
-        with.bans.split(left, right)?;
     }
     Ok(answer)
 }
 
 impl Splitting<'_> {
-    // The sides that the letter gives on the current branch.
-    fn sides(&mut self, letter: u8, behind: &[u8]) -> Result<(Ban, Ban), SplitRefusal> {
+    // The sides that the letter gives on a branch with these bans.
+    fn sides(
+        &mut self,
+        bans: &[Ban],
+        letter: u8,
+        behind: &[u8],
+    ) -> Result<(Ban, Ban), SplitRefusal> {
         let branch = Branch {
             map: self.map,
             trips: self.trips,
-            bans: self.bans.current(),
+            bans,
         };
         own_rules().sides(&mut self.work, &branch, letter, behind)
     }

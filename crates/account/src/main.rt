@@ -2,7 +2,6 @@
 // and the standing after it, and last the line that `settle` prints for the two files.
 #![tactic(auto)]
 
-mod bans;
 mod calls;
 mod hall;
 mod opening;
