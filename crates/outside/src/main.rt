@@ -6,7 +6,7 @@ mod single;
 use floor::FloorMap;
 use samples::{line, trip};
 use search::{Branch, Workspace};
-use single::Single;
+use single::single_rule;
 use splits::{Beside, SplitRule, own_rules};
 use std::io;
 
@@ -25,12 +25,12 @@ fn run(rt: &HostRuntime) -> anyhow::Result<()> {
     };
     let rules = Beside {
         first: own_rules(),
-        second: Single,
+        second: single_rule(),
     };
     tell(rt, &mut work, &branch, &rules, b'V', &[0, 1, 0, 1, 0, 3])?;
-    tell(rt, &mut work, &branch, &rules, b'S', &[1, 0, 1, 3])?;
-    tell(rt, &mut work, &branch, &rules, b'S', &[1, 1, 1, 3])?;
-    tell(rt, &mut work, &branch, &rules, b'S', &[1, 0, 1])?;
+    tell(rt, &mut work, &branch, &rules, b'S', &[1, 1, 3])?;
+    tell(rt, &mut work, &branch, &rules, b'S', &[1, 0, 3])?;
+    tell(rt, &mut work, &branch, &rules, b'S', &[1, 1])?;
     tell(rt, &mut work, &branch, &rules, b'Y', &[])?;
     Ok(())
 }

@@ -1,26 +1,36 @@
-ghost use Rattle.std.specs.Prelude.{◌≡◌};
+ghost use Rattle.std.specs.Prelude.{◌≡◌, ◌<◌, ◌≤◌, IfErr, IfOk, length, slice_index_or};
+ghost use Rattle.motion.specs.Routes.{nowhere};
 ghost use Rattle.outside.specs.Single.{doubling, single_rules};
 ghost use Rattle.outside.specs.SingleLemmas.{single_lawful};
+ghost use Rattle.splits.specs.Rules.{LawfulForAll, LawfulRules};
+ghost use Rattle.splits.specs.declared.refusal.SplitRefusal.TheVariants.{NoCart};
 
 use floor::{Cart, FloorMap, Place, Tick};
-use motion::Ban;
+use motion::{Ban, Trip};
 use search::{Branch, Workspace};
 use splits::{
-    SplitRefusal, SplitRule, byte_in, cart_in, check_cart, check_place, check_tick, ensure,
-    of_width,
+    SplitRefusal, SplitRule, byte_in, cart_in, check_place, check_tick, ensure, of_width,
 };
 
-// Letter `S` cart(1) place(1) place(1) tick(1): a cart is not at two places at one tick.
+// Letter `S` cart(1) place(1) tick(1): a cart is not at its target and at another place at one tick.
 #[derive(Clone, Copy)]
 pub struct Single;
 
-// A cart, two places and a tick.
+// A cart, a place and a tick.
 #[derive(Clone, Copy)]
 pub struct Doubling {
     pub cart: Cart,
-    pub p: Place,
-    pub q: Place,
+    pub place: Place,
     pub tick: Tick,
+}
+
+// It is lawful in a check, where every target is on the floor, and not for carts whose targets are elsewhere.
+pub fn single_rule() -> Single
+    ensures means_its_rules { ⟦<Single as SplitRule>⟧.rules result ≡ single_rules }
+    ensures lawful_in_a_check { LawfulRules single_rules }
+    ensures not_lawful_for_all_carts { LawfulForAll single_rules → ⊥ }
+{
+    Single
 }
 
 fn read(operands: &[u8]) -> Doubling
@@ -28,23 +38,33 @@ fn read(operands: &[u8]) -> Doubling
 {
     Doubling {
         cart: cart_in(operands, 0),
-        p: Place(u16::from(byte_in(operands, 1))),
-        q: Place(u16::from(byte_in(operands, 2))),
-        tick: Tick(u16::from(byte_in(operands, 3))),
+        place: Place(u16::from(byte_in(operands, 1))),
+        tick: Tick(u16::from(byte_in(operands, 2))),
     }
+}
+
+// The trip of the cart.
+fn trip_of(trips: &[Trip], cart: Cart) -> Result<Trip, SplitRefusal>
+    ensures found { IfOk result (λ trip. (cart.0 < length trips.now) × (trip ≡ slice_index_or trips.now cart.0 nowhere)) }
+    ensures refused { IfErr result (λ e. (length trips.now ≤ cart.0) × (e ≡ NoCart)) }
+{
+    trips
+        .get(usize::from(cart))
+        .copied()
+        .ok_or(SplitRefusal::NoCart)
 }
 
 impl SplitRule for Single {
     ghost rules = { λ _. single_rules };
 
-    ghost lawful = { λ s. single_lawful };
+    ghost lawful = { λ _. single_lawful };
 
     fn knows(&self, letter: u8) -> bool {
         letter == b'S'
     }
 
     fn width(&self, letter: u8, bytes: &[u8]) -> Option<usize> {
-        of_width(4, bytes)
+        of_width(3, bytes)
     }
 
     fn sides<M: FloorMap>(
@@ -55,14 +75,13 @@ impl SplitRule for Single {
         operands: &[u8],
     ) -> Result<(Ban, Ban), SplitRefusal> {
         let d = read(operands);
-        check_cart(branch.trips, d.cart)?;
-        check_place(branch.map, d.p)?;
-        check_place(branch.map, d.q)?;
+        let target = trip_of(branch.trips, d.cart)?.target;
+        check_place(branch.map, d.place)?;
         check_tick(d.tick)?;
-        ensure(d.p != d.q, SplitRefusal::Unlawful)?;
+        ensure(d.place != target, SplitRefusal::Unlawful)?;
         Ok((
-            Ban::stand_at(d.cart, d.p, d.tick),
-            Ban::stand_at(d.cart, d.q, d.tick),
+            Ban::stand_at(d.cart, target, d.tick),
+            Ban::stand_at(d.cart, d.place, d.tick),
         ))
     }
 }

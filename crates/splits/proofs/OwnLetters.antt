@@ -3,7 +3,8 @@ use Rattle.std.proofs.Common.{eqb, subst}
 use Rattle.std.proofs.lemmas.Bool.Decides.{Decides-eqb, Decides-or}
 use Rattle.splits.specs.CorridorTests.{passage, corridor_letter, CorridorTells}
 use Rattle.splits.specs.Edge.{crossing, edge_letter, EdgeTells}
-use Rattle.splits.specs.Own.{OwnLetters, OwnSidesLawful}
+use Rattle.splits.specs.Own.{OwnLetters, own}
+use Rattle.splits.specs.Rules.{LawfulForAll}
 use Rattle.splits.specs.Target.{arrival, target_letter, TargetTells}
 use Rattle.splits.specs.Vertex.{meeting, vertex_letter, VertexTells}
 use Rattle.splits.specs.BesideRuleLemmas.{either_way}
@@ -21,8 +22,8 @@ own_letters = record {
   corridor = λ f law trips bans ops. corridor_tells f law trips bans (passage ops);
 }
 
-pub own_sides_lawful : OwnSidesLawful
-own_sides_lawful f law trips bans l ops sides =
+pub own_lawful_for_all : LawfulForAll own
+own_lawful_for_all f law trips bans l ops sides =
     either_way (eqb l vertex_letter) (λ e. vertex_sides_lawful f trips bans (meeting ops) sides (subst (VertexTells f trips (meeting ops)) e (vertex_tells f trips (meeting ops))))
     (either_way (eqb l edge_letter) (λ e. edge_sides_lawful f trips bans (crossing ops) sides (subst (EdgeTells f trips (crossing ops)) e (edge_tells f trips (crossing ops))))
     (either_way (eqb l target_letter) (λ e. target_sides_lawful f trips bans (arrival ops) sides (subst (TargetTells trips (arrival ops)) e (target_tells trips (arrival ops))))

@@ -1,12 +1,12 @@
 -- Our own four letters side by side, and what they answer.
-use Rattle.std.specs.Prelude.{◌≡◌, ℕ, ◌≤◌, true, ◌⊎◌, ◌↔◌, List, length, Some, Ok}
+use Rattle.std.specs.Prelude.{◌≡◌, ℕ, ◌≤◌, true, ◌⊎◌, ◌↔◌, List, length, Some}
 use Rattle.floor.specs.Floor.{Floor, Lawful}
 use Rattle.motion.specs.declared.trip.Trip.{Trip}
 use Rattle.motion.specs.declared.ban.Ban.{Ban}
 use Rattle.splits.specs.Beside.{beside}
 use Rattle.splits.specs.CorridorTests.{passage, corridor_letter, corridor_rules, CorridorTells}
 use Rattle.splits.specs.Edge.{crossing, edge_letter, edge_rules, EdgeTells}
-use Rattle.splits.specs.Rules.{Rules, LawfulSides}
+use Rattle.splits.specs.Rules.{Rules}
 use Rattle.splits.specs.Target.{arrival, target_letter, target_rules, TargetTells}
 use Rattle.splits.specs.Vertex.{meeting, vertex_letter, vertex_rules, VertexTells}
 
@@ -26,9 +26,3 @@ pub record OwnLetters : Type 0 where
   pub edge : (f : Floor) → Lawful f → (trips : List Trip) (bans : List Ban) (ops : List ℕ) → EdgeTells f trips (crossing ops) (own.sides f trips bans edge_letter ops)
   pub target : (f : Floor) → Lawful f → (trips : List Trip) (bans : List Ban) (ops : List ℕ) → TargetTells trips (arrival ops) (own.sides f trips bans target_letter ops)
   pub corridor : (f : Floor) → Lawful f → (trips : List Trip) (bans : List Ban) (ops : List ℕ) → CorridorTells f trips bans (passage ops) (own.sides f trips bans corridor_letter ops)
-
--- whatever the carts and the bans are, both bans name what is there and no conflict-free set is lost
-abbrev pub OwnSidesLawful : Type 0
-OwnSidesLawful =
-    (f : Floor) → Lawful f → (trips : List Trip) (bans : List Ban) (l : ℕ) (ops : List ℕ) (sides : Ban × Ban) → own.sides f trips bans l ops ≡ Ok sides
-    → LawfulSides f trips bans sides

@@ -65,3 +65,9 @@ pub record LawfulRules (r : Rules) : Type 0 where
   -- no conflict-free set of the branch is lost
   pub covers : (f : Floor) (trips : List Trip) (bans : List Ban) (l : ℕ) (ops : List ℕ) (left right : Ban) → Askable f trips bans →
       r.sides f trips bans l ops ≡ Ok (left, right) → Covered f trips bans left right
+
+-- more than the laws ask: whatever the carts and the bans are, the sides are lawful
+abbrev pub LawfulForAll : Rules → Type 0
+LawfulForAll r =
+    (f : Floor) → Lawful f → (trips : List Trip) (bans : List Ban) (l : ℕ) (ops : List ℕ) (sides : Ban × Ban) → r.sides f trips bans l ops ≡ Ok sides
+    → LawfulSides f trips bans sides
