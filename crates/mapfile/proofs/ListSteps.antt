@@ -2,7 +2,8 @@
 use Rattle.std.proofs.Common.{◌≡◌, ℕ, ◌+◌, ◌*◌, ◌<◌, List, [], ◌∷◌, ◌++◌, length, get_or, drop, Ok, Err, Result, MatchResult, IsErrAnd, refl, ap, ◌∙◌, arith, min, length-append, drop_of_length-le, w8, Fits}
 use Rattle.floor.specs.Checks.{◌>>=◌}
 use Rattle.floor.proofs.Chains.{bind_at, passes}
-use Rattle.maps.specs.ListMaps.{network_of, Changed}
+use Rattle.maps.specs.Changes.{Changed}
+use Rattle.maps.specs.ListMaps.{network_of}
 use Rattle.maps.specs.Networks.{Network, joining}
 use Rattle.maps.specs.declared.connection.Connection.{Connection}
 use Rattle.maps.specs.declared.list.ListMap.{ListMap}
@@ -32,7 +33,7 @@ whole n at (l ∷ a ∷ b ∷ c ∷ d ∷ []) bytes five h = passes _ _ _ _ (not
 whole n at (l ∷ a ∷ b ∷ c ∷ d ∷ e ∷ rest) bytes five h = absurd (omega arith)
 
 -- what `join` answers, as the fault that it is told as
-pub connects : (before after : ListMap) (at : ℕ) (command : List ℕ) → length command ≡ 5 → get_or command 0 0 ≡ 87 → (c : Connection) → c ≡ named command → (joined : Result (Unit {0}) MapRefusal) → Changed (joining (network_of before) c) before after joined
+pub connects : (before after : ListMap) (at : ℕ) (command : List ℕ) → length command ≡ 5 → get_or command 0 0 ≡ 87 → (c : Connection) → c ≡ named command → (joined : Result (Unit {0}) MapRefusal) → Changed network_of (joining (network_of before) c) before after joined
     → (told : Result (Unit {0}) Fault) → MatchResult joined (λ x. told ≡ Ok x) (λ e. IsErrAnd told (λ f. f ≡ fault e at)) → Connects command at (network_of before) (network_of after) told
 connects before after at command five letter c is (Ok x) change told tells = rw tells (λ bytes. whole (network_of before) at command bytes five letter ∙ bind_at (blame at (joining (network_of before) (named command))) _ (network_of after) (ap (blame at) (rw is at change)))
 connects before after at command five letter c is (Err e) change told tells =

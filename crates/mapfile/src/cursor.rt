@@ -1,4 +1,4 @@
-ghost use Rattle.std.specs.Prelude.{◌≡◌, ◌+◌, ◌-◌, ◌*◌, ◌^◌, ◌<◌, ◌≤◌, length, drop, All, fold};
+ghost use Rattle.std.specs.Prelude.{◌≡◌, ◌+◌, ◌-◌, ◌*◌, ◌^◌, ◌<◌, ◌≤◌, length, drop, All, IfOk, fold};
 ghost use Rattle.std.specs.Result.{result_map_both};
 ghost use Rattle.mapfile.specs.Faults.{fault};
 ghost use Rattle.mapfile.specs.GridFiles.{after_text, number_line, size_line};
@@ -45,7 +45,8 @@ impl<'a> Cursor<'a> {
 
     // A number of one to three digits that is 1 to 32, and what is left behind its line.
     pub fn size_line(self) -> Result<(usize, Cursor<'a>), Fault>
-        ensures { size_line self.entry.at self.entry.bytes.now ≡ result_map_both sized (λ f. f) result }
+        ensures gauge { IfOk result (λ n. n.0 ≤ 32) }
+        ensures reads { size_line self.entry.at self.entry.bytes.now ≡ result_map_both sized (λ f. f) result }
     {
         let (size, rest) = self.number_line()?;
         if !(1..=32).contains(&size) {

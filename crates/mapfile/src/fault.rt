@@ -1,9 +1,7 @@
 ghost use Rattle.std.specs.Prelude.{◌≡◌, Some};
-ghost use Rattle.mapfile.specs.Faults.{fault, fault_text, error_text};
-ghost use Rattle.mapfile.specs.declared.fault.ReadError.TheVariants.{Fault as Faulty, NoMemory};
+ghost use Rattle.mapfile.specs.Faults.{fault, fault_text};
 
 use maps::MapRefusal;
-use std::alloc::AllocFailed;
 use std::error::Error;
 use std::fmt;
 use std::fmt::{Display, Formatter};
@@ -15,35 +13,11 @@ pub struct Fault {
     pub offset: usize,
 }
 
-// Why a map file was not read. As `MapError`, but of a fault: a type of each crate, since one for both would only say
-// that memory can be wanting, and not of what.
-#[derive(Clone, Copy, PartialEq, Eq, Debug)]
-pub enum ReadError {
-    Fault(Fault),
-    NoMemory,
-}
-
 impl Fault {
     pub(crate) fn new(refusal: MapRefusal, offset: usize) -> Fault
         ensures { result ≡ fault refusal offset }
     {
         Fault { refusal, offset }
-    }
-}
-
-impl From<Fault> for ReadError {
-    ghost from_gives = { λ f r. r ≡ Faulty f };
-
-    fn from(f: Fault) -> ReadError {
-        ReadError::Fault(f)
-    }
-}
-
-impl<T: Drop> From<AllocFailed<T>> for ReadError {
-    ghost from_gives = { λ _ r. r ≡ NoMemory };
-
-    fn from(_e: AllocFailed<T>) -> ReadError {
-        ReadError::NoMemory
     }
 }
 
@@ -55,17 +29,4 @@ impl Display for Fault {
     }
 }
 
-impl Display for ReadError {
-    ghost output = { λ e. Some (error_text e) };
-
-    fn fmt<W: fmt::Write>(&self, f: &mut Formatter<W>) -> fmt::Result {
-        match self {
-            Self::Fault(fault) => write!(f, "{fault}"),
-            Self::NoMemory => f.write_str("out of memory"),
-        }
-    }
-}
-
 impl Error for Fault {}
-
-impl Error for ReadError {}

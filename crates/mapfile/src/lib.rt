@@ -5,8 +5,10 @@ mod cursor;
 mod fault;
 mod grid;
 mod list;
+mod memory;
 
 pub use any::read_map;
-pub use fault::{Fault, ReadError};
+pub use fault::Fault;
 pub use grid::read_grid;
 pub use list::read_list;
+pub use memory::MapMemory;

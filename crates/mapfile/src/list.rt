@@ -1,49 +1,48 @@
 ghost use Rattle.std.specs.Prelude.{◌≡◌, ◌+◌, ◌^◌, ◌<◌, ◌≤◌, length, OnOk};
+ghost use Rattle.std.specs.Result.{result_map_both};
 ghost use Rattle.maps.specs.ListMaps.{network_of};
-ghost use Rattle.mapfile.specs.Faults.{Answers};
 ghost use Rattle.mapfile.specs.ListFiles.{beginning, list_reading, word};
 ghost use Rattle.mapfile.specs.ListLayout.{ListReadExactly, ListFaultsExactly};
-ghost use Rattle.mapfile.specs.ListReads.{Connects, error_at};
+ghost use Rattle.mapfile.specs.ListReads.{Connects};
 
-use crate::fault::{Fault, ReadError};
+use crate::fault::Fault;
+use crate::memory::MapMemory;
 use floor::Place;
-use maps::{Connection, ListMap, MapError, MapRefusal};
-use std::alloc::Global;
+use maps::{Connection, ListMap, MapRefusal};
 
-// A map in the list layout.
-pub fn read_list(heap: Global, bytes: &[u8]) -> Result<ListMap, ReadError>
-    ensures reads { Answers network_of (list_reading bytes.now) result }
+// A map in the list layout, or the first fault.
+pub fn read_list<'m>(memory: &'m mut MapMemory, bytes: &[u8]) -> Result<&'m ListMap, Fault>
+    ensures reads { list_reading bytes.now ≡ result_map_both (λ map. network_of map.now) (λ f. f) result }
     ensures exactly { ListReadExactly bytes.now }
     ensures faults { ListFaultsExactly bytes.now }
 {
-    let mut map = read_count(heap, bytes)?;
+    fill_list(&mut memory.list, bytes)?;
+    Ok(&memory.list)
+}
+
+// Makes of the map what the file says.
+#[tactic(auto, unfolding(crate::specs::ListFiles::list_reading))]
+fn fill_list(map: &mut ListMap, bytes: &[u8]) -> Result<(), Fault>
+    ensures { list_reading bytes.now ≡ result_map_both (λ _. network_of map.new) (λ f. f) result }
+{
+    read_count(map, bytes)?;
     for (i, command) in bytes[3..].chunks(5).enumerate() {
-        read_connection(&mut map, command, 3 + 5 * i)?;
+        read_connection(map, command, 3 + 5 * i)?;
     }
-    Ok(map)
+    Ok(())
 }
 
 // The `P` command that the file begins with.
-fn read_count(heap: Global, bytes: &[u8]) -> Result<ListMap, ReadError>
-    ensures reads { Answers network_of (beginning bytes.now) result }
+fn read_count(map: &mut ListMap, bytes: &[u8]) -> Result<(), Fault>
+    ensures reads { beginning bytes.now ≡ result_map_both (λ _. network_of map.new) (λ f. f) result }
     ensures long { OnOk result (3 ≤ length bytes.now) }
 {
     match bytes {
-        [b'P', high, low, ..] => {
-            ListMap::new(heap, word(*high, *low)).map_err(|why| error_at(why, 0))
-        }
-        [] | [b'P', ..] => Err(Fault::new(MapRefusal::CutShort, bytes.len()).into()),
-        _ => Err(Fault::new(MapRefusal::Letter, 0).into()),
-    }
-}
-
-// Why no map was made, as an error of the file. No `From`, since the offset does not come with it.
-fn error_at(why: MapError, offset: usize) -> ReadError
-    ensures { result ≡ error_at why offset }
-{
-    match why {
-        MapError::Refused(refusal) => Fault::new(refusal, offset).into(),
-        MapError::NoMemory => ReadError::NoMemory,
+        [b'P', high, low, ..] => map
+            .found(word(*high, *low))
+            .map_err(|refusal| Fault::new(refusal, 0)),
+        [] | [b'P', ..] => Err(Fault::new(MapRefusal::CutShort, bytes.len())),
+        _ => Err(Fault::new(MapRefusal::Letter, 0)),
     }
 }
 

@@ -2,27 +2,16 @@ use Rattle.std.proofs.Common.{◌≡◌, ℕ, ◌-◌, length, take_all, drop, a
 use Rattle.std.specs.Iterator.Adapters.{enumerate_source, enumerate_count}
 use Rattle.maps.specs.ListMaps.{network_of}
 use Rattle.mapfile.specs.ListFiles.{beginning, connecting, list_reading}
-use Rattle.mapfile.proofs.FaultAnswers.{answers_fault, answers_error, stage_error}
-use Rattle.mapfile.proofs.ListLayout.{list_read_exactly, list_faults_exactly}
-use Rattle.mapfile.proofs.ListSteps.{beginning_first, beginning_leads, bytes_fit, goes_on, stops}
-use Rattle.mapfile.proofs.list.read_list.Goals as goal
-
-pub returns-in_err-map : goal.returns-in_err-map
-returns-in_err-map c =
-    let bytes = c.args.bytes.now in
-    let fit = bytes_fit bytes c.type_inv.bytes in
-    record {
-      reads = answers_error network_of (list_reading bytes) c.from_residual.result c.in_err-map.field-0.0 (stage_error (list_reading bytes) (beginning bytes) (λ n. connecting n 3 (drop 3 bytes)) (beginning_first bytes) c.in_err-map.field-0.0 c.in_err-map.ensures.reads) c.from_residual.ensures.1;
-      exactly = list_read_exactly bytes fit;
-      faults = list_faults_exactly bytes fit;
-    }
+use Rattle.mapfile.proofs.FaultAnswers.{passed_on}
+use Rattle.mapfile.proofs.ListSteps.{beginning_leads, goes_on, stops}
+use Rattle.mapfile.proofs.list.fill_list.Goals as goal
 
 pub loop-i-init : goal.loop-i-init
 loop-i-init c =
     let begun = c.into_iter-i-iterator.ensures.into_iter_gives in
     let from : enumerate_source c.into_iter-i-iterator.result ≡ c.chunks.result = ap enumerate_source begun ∙ c.enumerate-i-items.ensures.source in
     let none : enumerate_count c.into_iter-i-iterator.result ≡ 0 = ap enumerate_count begun ∙ c.enumerate-i-items.ensures.count in
-    let leads = beginning_leads c.args.bytes.now (network_of c.in_ok-map.map) c.in_ok-map.ensures.reads in
+    let leads = beginning_leads c.args.bytes.now (network_of c.read_count.new.map) c.in_ok-read_count.ensures.reads in
     let rest = c.chunks.ensures.rest ∙ take_all (length c.args.bytes.now - 3) (drop 3 c.args.bytes.now) (omega (arith, length-drop {A = ℕ})) in
     rw (from, none, rest) (leads, c.chunks.ensures.size, grind (arith, length-drop {A = ℕ}))
 
@@ -39,16 +28,6 @@ loop-i-preserved c =
 pub returns-in_err-read_connection : goal.returns-in_err-read_connection
 returns-in_err-read_connection c =
     let step = c.in-Some.ensures.steps in
-    let bytes = c.args.bytes.now in
-    let fit = bytes_fit bytes c.type_inv.bytes in
-    record {
-      reads = answers_fault network_of (list_reading bytes) c.from_residual-in_err-read_connection.result c.in_err-read_connection.field-0.0 (stops _ (network_of c.loop-i.map) (network_of c.read_connection.new.map) c.in-Some.i _ c.in-Some.command.now _ _ step.1 step.0.1.0 c.loop-i.invariant.0 _ (rw c.loop-i.invariant.1 at step.0.1.1) c.in_err-read_connection.ensures.reads) c.from_residual-in_err-read_connection.ensures.1;
-      exactly = list_read_exactly bytes fit;
-      faults = list_faults_exactly bytes fit;
-    }
-
-pub returns-clause-exactly : goal.returns-clause-exactly
-returns-clause-exactly c = list_read_exactly c.args.bytes.now (bytes_fit c.args.bytes.now c.type_inv.bytes)
-
-pub returns-clause-faults : goal.returns-clause-faults
-returns-clause-faults c = list_faults_exactly c.args.bytes.now (bytes_fit c.args.bytes.now c.type_inv.bytes)
+    passed_on _ _ c.from_residual-in_err-read_connection.result c.in_err-read_connection.field-0.0
+    (stops _ (network_of c.loop-i.map) (network_of c.read_connection.new.map) c.in-Some.i _ c.in-Some.command.now _ _ step.1 step.0.1.0 c.loop-i.invariant.0 _ (rw c.loop-i.invariant.1 at step.0.1.1) c.in_err-read_connection.ensures.reads)
+    c.from_residual-in_err-read_connection.ensures.1

@@ -3,7 +3,7 @@ use Rattle.std.specs.Iterator.Adapters.{enumerate_source, enumerate_count}
 use Rattle.std.specs.Slice.Iter.{chunks_rest, chunks_size}
 use Rattle.maps.specs.ListMaps.{network_of}
 use Rattle.mapfile.specs.ListFiles.{connecting, list_reading}
-use Rattle.mapfile.proofs.list.read_list.Given as goal
+use Rattle.mapfile.proofs.list.fill_list.Given as goal
 
 -- what is left decides
 abbrev pub invariant-loop-i : goal.invariant-loop-i
