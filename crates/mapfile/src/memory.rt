@@ -1,8 +1,4 @@
-ghost use Rattle.std.specs.Prelude.{◌≡◌, ◌≤◌, [], IfOk};
-ghost use Rattle.maps.specs.GridMaps.{grid_of};
-ghost use Rattle.maps.specs.Grids.{one_cell};
-ghost use Rattle.maps.specs.ListMaps.{network_of};
-ghost use Rattle.maps.specs.Networks.{bare};
+ghost use Rattle.std.specs.Prelude.{◌≤◌, IfOk};
 
 use maps::{GridMap, ListMap};
 use std::alloc::{AllocError, Global};
@@ -18,8 +14,10 @@ pub struct MapMemory {
 }
 
 impl MapMemory {
+    ghost use Rattle.mapfile.specs.Memories.{Fresh};
+
     pub fn new(heap: Global) -> Result<MapMemory, AllocError>
-        ensures { IfOk result (λ m. (network_of m.list ≡ bare 1) × (grid_of m.grid ≡ one_cell) × (m.cells.items ≡ [])) }
+        ensures { IfOk result (λ m. Fresh m) }
     {
         Ok(MapMemory {
             list: ListMap::with_room(heap)?,
