@@ -1,22 +1,20 @@
 -- The first fault of a map file stands in the file or at its end.
-use Rattle.std.proofs.Common.{◌≡◌, ℕ, ◌+◌, ◌≤◌, true, false, Bool, List, ◌++◌, length, ap, arith, length-append}
+use Rattle.std.proofs.Common.{◌≡◌, ℕ, ◌+◌, ◌≤◌, true, false, Bool, List, ◌∷◌, ◌++◌, length, ap, arith, length-append}
+use Rattle.cursor.proofs.Commands.{missing_within}
 use Rattle.maps.specs.Networks.{Network}
 use Rattle.maps.specs.declared.refusal.MapRefusal.{MapRefusal}
 use Rattle.mapfile.specs.GridFiles.{opening_text}
 use Rattle.mapfile.specs.GridLayout.{GridFault, not_opened, no_height, height_off_gauge, no_width_label, no_width, width_off_gauge, no_map_line, wrong_rows, WrongBody}
-use Rattle.mapfile.specs.ListLayout.{ListFault, NoBeginning, NoContinuing, list_text, empty, no_count, count_cut, count_refused, no_connection, places_cut, connection_refused, at_beginning, at_command}
+use Rattle.mapfile.specs.ListLayout.{ListFault, NoBeginning, NoContinuing, list_text, no_count, count_refused, no_connection, connection_refused, at_beginning, at_command}
 use Rattle.mapfile.specs.MapFiles.{FaultAs}
 
 beginning_within : (bytes : List ℕ) (e : MapRefusal) (k : ℕ) → NoBeginning bytes e k → k ≤ length bytes
-beginning_within bytes e k empty = omega arith
-beginning_within bytes e k (no_count other) = omega arith
-beginning_within bytes e k (count_cut few) = omega arith
-beginning_within bytes e k (count_refused is) = omega arith
+beginning_within bytes e k (no_count {lack = lack} wrong) = missing_within 80 2 bytes lack k wrong
+beginning_within bytes e k (count_refused places is) = omega arith
 
 continuing_within : (n : Network) (bytes : List ℕ) (e : MapRefusal) (k : ℕ) → NoContinuing n bytes e k → k ≤ length bytes
-continuing_within n bytes e k (no_connection other) = omega arith
-continuing_within n bytes e k (places_cut few) = omega arith
-continuing_within n bytes e k (connection_refused is) = omega arith
+continuing_within n bytes e k (no_connection {b = b} {bytes = behind} {lack = lack} wrong) = missing_within 87 4 (b ∷ behind) lack k wrong
+continuing_within n bytes e k (connection_refused c is) = omega arith
 
 -- what is within the rest is within the whole
 behind : (bytes front rest : List ℕ) (k : ℕ) → bytes ≡ front ++ rest → k ≤ length rest → length front + k ≤ length bytes

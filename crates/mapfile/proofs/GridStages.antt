@@ -1,11 +1,12 @@
 -- The reading of a grid file from each of its stages on, and the beginnings that lead there.
 use Rattle.std.proofs.Common.{◌≡◌, ℕ, List, ◌∷◌, ◌++◌, length, Ok, Result, sym, ap, ◌∙◌, append_assoc, length-append, arith}
 use Rattle.floor.proofs.Chains.{bind_at}
+use Rattle.cursor.specs.Rests.{Rest}
 use Rattle.floor.specs.Checks.{◌>>=◌}
 use Rattle.maps.specs.Grids.{Grid}
 use Rattle.mapfile.proofs.Numerals.{size_read}
 use Rattle.mapfile.proofs.Texts.{text_passed}
-use Rattle.mapfile.specs.GridFiles.{Rest, opening_text, width_text, map_text, after_text, size_line, body, grid_reading}
+use Rattle.mapfile.specs.GridFiles.{opening_text, width_text, map_text, after_text, size_line, body, grid_reading}
 use Rattle.mapfile.specs.GridLayout.{ToHeight, ToWidth}
 use Rattle.mapfile.specs.declared.fault.Fault.{Fault}
 

@@ -1,7 +1,5 @@
-pub mod Words
 pub mod ListCommands
 pub mod ListLayout
-pub mod ListSteps
 pub mod Texts
 pub mod Numerals
 pub mod Bodies

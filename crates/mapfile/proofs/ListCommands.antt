@@ -1,7 +1,18 @@
 -- The `W` commands of a list file, and the connections that they come to.
-use Rattle.std.proofs.Common.{◌≡◌, ℕ, ◌+◌, ◌/◌, ◌%◌, ◌<◌, true, false, not, eqb, ◌⊎◌, List, [], ◌∷◌, ◌++◌, length, Ok, Err, Result, sym, refl, ap, ◌∙◌, subst, ap₂, inl, inr, ⊎_elim, add-zero, zero-add, arith}
+use Rattle.std.proofs.Common.{◌≡◌, ℕ, zero, suc, ◌+◌, ◌<◌, ◌≤◌, List, [], ◌∷◌, ◌++◌, length, drop, Ok, Err, Result, MatchResult, sym, refl, ap, ap₂, ◌∙◌, subst, add-zero, zero-add, arith}
+use Rattle.std.specs.List.{flat_map}
+use Rattle.std.proofs.Math.Seq.{drop-append_seam}
+use Rattle.std.proofs.lemmas.List.{append-nil, append_assoc}
+use Rattle.std.proofs.lemmas.List.Elements.{All-drop}
+use Rattle.std.proofs.lemmas.Result.{MatchResult-weaker}
+use Rattle.cursor.proofs.Commands.{bytes_behind, operands_missed, operands_read, operands_tell}
+use Rattle.cursor.proofs.Words.{word_back, words_back}
+use Rattle.cursor.specs.Commands.{missing, operands}
+use Rattle.cursor.specs.Exactly.{Misses, Stands}
+use Rattle.cursor.specs.Rests.{Rest, rest}
+use Rattle.cursor.specs.Words.{Bytes, two_bytes}
+use Rattle.cursor.specs.declared.missing.Missing.{Missing}
 use Rattle.floor.specs.Checks.{◌>>=◌}
-use Rattle.floor.proofs.Chains.{ok_no_err, err_same, bind_ok, bind_err, bind_at, passed, refused, refused_or_passed}
 use Rattle.maps.specs.Networks.{Network, Proper, joining, with_connection}
 use Rattle.maps.specs.declared.connection.Connection.{Connection}
 use Rattle.maps.specs.JoiningLemmas.{joining_is_proper}
@@ -9,16 +20,10 @@ use Rattle.maps.specs.NetworksLemmas.{proper_front, proper_prefix}
 use Rattle.maps.proofs.Joining.{joining_tells}
 use Rattle.maps.specs.PassingLemmas.{passed_from_ok}
 use Rattle.maps.specs.declared.refusal.MapRefusal.{MapRefusal}
-use Rattle.maps.specs.declared.refusal.MapRefusal.TheVariants.{Letter, CutShort}
 use Rattle.mapfile.specs.Faults.{fault}
-use Rattle.mapfile.specs.ListFiles.{connection, blame, cut, connecting}
-use Rattle.mapfile.specs.ListLayout.{connection_text, Bytes, NoContinuing, no_connection, places_cut, connection_refused}
+use Rattle.mapfile.specs.ListFiles.{connection, connected, connecting, blame, told}
+use Rattle.mapfile.specs.ListLayout.{connection_text, NoContinuing, no_connection, connection_refused}
 use Rattle.mapfile.specs.declared.fault.Fault.{Fault}
-use Rattle.mapfile.proofs.Words.{word_back, word_high, word_low}
-use Rattle.std.specs.List.{flat_map}
-use Rattle.std.proofs.lemmas.List.{append-nil, append_assoc}
-use Rattle.std.proofs.lemmas.List.Elements.{All-drop}
-use Rattle.std.proofs.lemmas.Bool.{eqb-true, eqb-false, ne_eqb, not-true, not-false, cases_Bool, cond-true, cond-false}
 
 -- the network with more connections
 abbrev pub extended : Network → List Connection → Network
@@ -33,46 +38,76 @@ extended_none n = ap (λ cs. record { places = n.places; connections = cs }) (ap
 extended_more : (n : Network) (c : Connection) (cs : List Connection) → extended (with_connection n c) cs ≡ extended n (c ∷ cs)
 extended_more n c cs = ap (λ cs. record { places = n.places; connections = cs }) (append_assoc n.connections (c ∷ []) cs)
 
-text_of_operands : (a b c d : ℕ) → b < 256 → d < 256 → connection_text (connection a b c d) ≡ 87 ∷ a ∷ b ∷ c ∷ d ∷ []
-text_of_operands a b c d lb ld = simp (word_high a b lb, word_low a b lb, word_high c d ld, word_low c d ld)
+-- ---- one command
 
-pub letter_from_test : (letter due : ℕ) → not (eqb letter due) ≡ false → letter ≡ due
-letter_from_test letter due h = eqb-true letter due (not-false (eqb letter due) h)
+-- what comes of the operands that were read: the connection, and the network that it is joined to
+abbrev named : Result (List ℕ × Rest) Missing → Result (Connection × Rest) Missing
+named read = read >>= λ r. Ok (connection r.0, r.1)
 
-pub other_letter : (letter due : ℕ) → not (eqb letter due) ≡ true → letter ≡ due → ⊥
-other_letter letter due h = eqb-false letter due (not-true (eqb letter due) h)
+abbrev with_rest : ℕ → Rest → Result Network MapRefusal → Result (Network × Rest) Fault
+with_rest at left x = blame at x >>= λ j. Ok (j, left)
 
--- a command that the file ends in: cut short, or of another letter
-pub cut_cases : {A : Type 0} (due letter at end : ℕ) (f : Fault) → cut {A = A} due letter at end ≡ Err f
-    → ((letter ≡ due) × (fault CutShort end ≡ f)) ⊎ ((letter ≡ due → ⊥) × (fault Letter at ≡ f))
-cut_cases due letter at end f h =
-    ⊎_elim (λ t. inl (eqb-true letter due t, sym (cond-true _ _ _ t) ∙ err_same h)) (λ t. inr (eqb-false letter due t, sym (cond-false _ _ _ t) ∙ err_same h))
-    (cases_Bool (eqb letter due))
+abbrev joined : Network → ℕ → Result (List ℕ × Rest) Missing → Result (Network × Rest) Fault
+joined n at read = told (named read) >>= λ c. with_rest at c.1 (joining n c.0)
 
-pub blame_ok : {A : Type 0} (at : ℕ) (x : Result A MapRefusal) (y : A) → blame at x ≡ Ok y → x ≡ Ok y
-blame_ok at (Ok x) y h = cc
-blame_ok at (Err e) y h = absurd (ok_no_err (sym h))
+-- a connection's text stands there, and leads from n to a network that is a list map
+pub record Joins (n : Network) (at : ℕ) (bytes : List ℕ) (m : Network) (left : Rest) : Type 0 where
+  pub new : Connection
+  pub text : bytes ≡ connection_text new ++ left.bytes
+  pub place : left.at ≡ at + 5
+  pub longer : m ≡ with_connection n new
+  pub proper : Proper m
 
-pub blame_err : {A : Type 0} (at : ℕ) (x : Result A MapRefusal) (f : Fault) → blame at x ≡ Err f → (e : MapRefusal) × (x ≡ Err e) × (fault e at ≡ f)
-blame_err at (Ok x) f h = absurd (ok_no_err h)
-blame_err at (Err e) f h = (e, refl, err_same h)
+-- the file does not go on from here
+pub record Halts (n : Network) (at : ℕ) (bytes : List ℕ) (f : Fault) : Type 0 where
+  pub into : ℕ
+  pub place : f.offset ≡ at + into
+  pub wrong : NoContinuing n bytes f.refusal into
 
--- one command: its letter, its connection and what follows
-module _ (n : Network) (at l a b c d : ℕ) (bytes : List ℕ) where
-  abbrev After : Result Network Fault → Type 0
-  After r = (l ≡ 87) × (joining n (connection a b c d) ≡ Ok (with_connection n (connection a b c d))) × (connecting (with_connection n (connection a b c d)) (at + 5) bytes ≡ r)
+module _ (n : Network) (proper : Proper n) (at : ℕ) where
+  abbrev Tells : List ℕ → Result (Network × Rest) Fault → Type 0
+  Tells bytes told = MatchResult told (λ next. Joins n at bytes next.0 next.1) (Halts n at bytes)
 
-  joined_after : (j : Network) (r : Result Network Fault) → l ≡ 87 → blame at (joining n (connection a b c d)) ≡ Ok j → connecting j (at + 5) bytes ≡ r → After r
-  joined_after j r letter blamed goes =
-      let taken = blame_ok at (joining n (connection a b c d)) j blamed in
-      let is = (passed_from_ok n (connection a b c d) j taken).1 in
-      (letter, subst (λ j. joining n (connection a b c d) ≡ Ok j) is taken, subst (λ j. connecting j (at + 5) bytes ≡ r) is goes)
+  joining_told : (c : Connection) (left : Rest) → left.at ≡ at + 5 → (x : Result Network MapRefusal) → joining n c ≡ x
+      → Tells (connection_text c ++ left.bytes) (with_rest at left x)
+  joining_told c left place (Ok j) is =
+      let longer = (passed_from_ok n c j is).1 in
+      let taken = subst (λ m. joining n c ≡ Ok m) longer is in
+      record { new = c; text = refl; place = place; longer = longer; proper = subst Proper (sym longer) ((joining_is_proper n c proper).0 taken) }
+  joining_told c left place (Err e) is = record { into = 0; place = sym (add-zero at); wrong = connection_refused c ((joining_tells.refused n c e).0 is) }
 
-  command_ok : (m : Network) → connecting n at (l ∷ a ∷ b ∷ c ∷ d ∷ bytes) ≡ Ok m → After (Ok m)
-  command_ok m h =
-      let letter = passed (not (eqb l 87)) (fault Letter at) _ m h in
-      let step = bind_ok (blame at (joining n (connection a b c d))) (λ j. connecting j (at + 5) bytes) m letter.1 in
-      joined_after step.0 (Ok m) (letter_from_test l 87 letter.0) step.1 step.2
+  connection_tells : (b : ℕ) (bytes : List ℕ) → Bytes (b ∷ bytes) → Tells (b ∷ bytes) (connected n (rest at (b ∷ bytes)))
+  connection_tells b bytes low = by (operands 87 4 (rest at (b ∷ bytes))) (operands_tell 87 4 (rest at (b ∷ bytes)))
+    where
+      by : (x : Result (List ℕ × Rest) Missing) → MatchResult x (λ r. Stands 87 4 (rest at (b ∷ bytes)) r.0 r.1) (Misses 87 4 (rest at (b ∷ bytes))) → Tells (b ∷ bytes) (joined n at x)
+      by (Err m) misses = record { into = misses.into; place = misses.place; wrong = no_connection misses.wrong }
+      by (Ok read) stands =
+          let ops = bytes_behind 87 4 (rest at (b ∷ bytes)) read.0 read.1 stands low in
+          let place = stands.place in
+          subst (λ bs. Tells bs (joined n at (Ok read))) (sym (stands.text ∙ ap (λ ops. 87 ∷ (ops ++ read.1.bytes)) (sym (words_back read.0 ops.0 stands.whole))))
+          (joining_told (connection read.0) read.1 (omega arith) (joining n (connection read.0)) refl)
+
+-- a connection's text is read as it was, and it is joined or refused
+connection_due : (n : Network) (c : Connection) (at : ℕ) (more : List ℕ) → connected n (rest at (connection_text c ++ more)) ≡ with_rest at (rest (at + 1 + 4) more) (joining n c)
+connection_due n c at more =
+    let ops = two_bytes c.first.0 ++ two_bytes c.second.0 in
+    let back : connection ops ≡ c = ap₂ (λ x y. record { first = record { 0 = x }; second = record { 0 = y } }) (word_back c.first.0) (word_back c.second.0) in
+    ap (joined n at) (operands_read 87 4 (rest at (87 ∷ (ops ++ more))) ops (rest (at + 1 + 4) more) (record { text = refl; whole = refl; place = refl }))
+    ∙ ap (λ d. with_rest at (rest (at + 1 + 4) more) (joining n d)) back
+
+-- ---- one after the other
+
+-- the bytes that are still due to a command are passed over
+passed : (n : Network) (due at : ℕ) (bytes : List ℕ) → connecting n due at bytes ≡ connecting n 0 (at + due) (drop due bytes)
+passed n zero at bytes = ap (λ k. connecting n 0 k bytes) (sym (add-zero at))
+passed n (suc due) at [] = refl
+passed n (suc due) at (b ∷ bytes) = passed n due (at + 1) bytes ∙ ap (λ k. connecting n 0 k (drop due bytes)) (omega arith)
+
+behind_connection : (n : Network) (at b : ℕ) (bytes ops : List ℕ) (left : Rest) → Stands 87 4 (rest at (b ∷ bytes)) ops left → connecting n 4 (at + 1) bytes ≡ connecting n 0 left.at left.bytes
+behind_connection n at b bytes ops left stands =
+    let place = stands.place in
+    let behind : drop 4 bytes ≡ left.bytes = ap (λ bs. drop 5 bs) stands.text ∙ ap (λ k. drop k (ops ++ left.bytes)) (sym stands.whole) ∙ drop-append_seam ops left.bytes in
+    passed n 4 (at + 1) bytes ∙ ap₂ (λ k bs. connecting n 0 k bs) (omega arith) behind
 
 -- the bytes are the texts of connections that lead from n to m
 pub record Reads (n : Network) (bytes : List ℕ) (m : Network) : Type 0 where
@@ -81,137 +116,85 @@ pub record Reads (n : Network) (bytes : List ℕ) (m : Network) : Type 0 where
   pub whole : m ≡ extended n more
   pub proper : Proper m
 
-bytes_behind_command : (l a b c d : ℕ) (bytes : List ℕ) → Bytes (l ∷ a ∷ b ∷ c ∷ d ∷ bytes) → Bytes bytes
-bytes_behind_command l a b c d bytes low = All-drop (λ x. x < 256) 5 (l ∷ a ∷ b ∷ c ∷ d ∷ bytes) low
-
-command_text : (l a b c d : ℕ) (bytes rest : List ℕ) → Bytes (l ∷ a ∷ b ∷ c ∷ d ∷ bytes) → l ≡ 87 → bytes ≡ rest → l ∷ a ∷ b ∷ c ∷ d ∷ bytes ≡ connection_text (connection a b c d) ++ rest
-command_text l a b c d bytes rest low letter e =
-    ap₂ (λ x bs. x ∷ a ∷ b ∷ c ∷ d ∷ bs) letter e ∙ ap (λ t. t ++ rest) (sym (text_of_operands a b c d (low 2 0 (omega arith)) (low 4 0 (omega arith))))
-
-pub connecting_ok : (n : Network) (at : ℕ) (bytes : List ℕ) (m : Network) → Bytes bytes → Proper n → connecting n at bytes ≡ Ok m → Reads n bytes m
-connecting_ok n at [] m low proper h =
-    let same : n ≡ m = cc in record { more = []; text = refl; whole = sym same ∙ sym (extended_none n); proper = subst Proper same proper }
-connecting_ok n at (l ∷ []) m low proper h = absurd (ok_no_err (sym h))
-connecting_ok n at (l ∷ a ∷ []) m low proper h = absurd (ok_no_err (sym h))
-connecting_ok n at (l ∷ a ∷ b ∷ []) m low proper h = absurd (ok_no_err (sym h))
-connecting_ok n at (l ∷ a ∷ b ∷ c ∷ []) m low proper h = absurd (ok_no_err (sym h))
-connecting_ok n at (l ∷ a ∷ b ∷ c ∷ d ∷ bytes) m low proper h =
-    let new = connection a b c d in
-    let step = command_ok n at l a b c d bytes m h in
-    let rest = connecting_ok (with_connection n new) (at + 5) bytes m (bytes_behind_command l a b c d bytes low) ((joining_is_proper n new proper).0 step.1) step.2 in
-    record {
-      more = new ∷ rest.more;
-      text = command_text l a b c d bytes (texts rest.more) low step.0 rest.text;
-      whole = rest.whole ∙ extended_more n new rest.more;
-      proper = rest.proper;
-    }
-
-connection_back : (c : Connection) → connection (c.first.0 / 256) (c.first.0 % 256) (c.second.0 / 256) (c.second.0 % 256) ≡ c
-connection_back c =
-    ap₂ (λ x y. record { first = record { 0 = x }; second = record { 0 = y } }) (word_back c.first.0) (word_back c.second.0)
-
--- connections' texts are read, and then what stands behind them
-pub connecting_on : (cs : List Connection) (n : Network) (at : ℕ) (rest : List ℕ) → Proper (extended n cs) → connecting n at (texts cs ++ rest) ≡ connecting (extended n cs) (at + length (texts cs)) rest
-connecting_on [] n at rest proper = ap₂ (λ m k. connecting m k rest) (sym (extended_none n)) (sym (add-zero at))
-connecting_on (c ∷ cs) n at rest proper =
-    let longer = subst Proper (sym (extended_more n c cs)) proper in
-    let front = proper_prefix n.places (n.connections ++ c ∷ []) cs longer in
-    let taken = (joining_is_proper n c (proper_front n c front)).1 front in
-    bind_at (blame at (joining n _)) (λ j. connecting j (at + 5) (texts cs ++ rest)) (with_connection n c) (ap (λ x. blame at (joining n x)) (connection_back c) ∙ ap (blame at) taken)
-    ∙ connecting_on cs (with_connection n c) (at + 5) rest longer ∙ ap₂ (λ m k. connecting m k rest) (extended_more n c cs) (omega arith)
-
 -- connections' texts, and then what does not go on
 pub record Stops (n : Network) (at : ℕ) (bytes : List ℕ) (f : Fault) : Type 0 where
   pub more : List Connection
-  pub rest : List ℕ
-  pub beyond : ℕ
+  pub behind : List ℕ
+  pub into : ℕ
   pub proper : Proper (extended n more)
-  pub text : bytes ≡ texts more ++ rest
-  pub place : f.offset ≡ at + (length (texts more) + beyond)
-  pub wrong : NoContinuing (extended n more) rest f.refusal beyond
+  pub text : bytes ≡ texts more ++ behind
+  pub place : f.offset ≡ at + (length (texts more) + into)
+  pub wrong : NoContinuing (extended n more) behind f.refusal into
 
-stops_here : (n : Network) (at : ℕ) (bytes : List ℕ) (e : MapRefusal) (k : ℕ) (f : Fault) → Proper n → fault e (at + k) ≡ f → NoContinuing n bytes e k → Stops n at bytes f
-stops_here n at bytes e k f proper is wrong =
-    record {
-      more = [];
-      rest = bytes;
-      beyond = k;
-      proper = subst Proper (sym (extended_none n)) proper;
-      text = refl;
-      place = ap (λ f. f.offset) (sym is) ∙ ap (λ x. at + x) (sym (zero-add k));
-      wrong = subst (λ f. NoContinuing (extended n []) bytes f.refusal k) is (subst (λ m. NoContinuing m bytes e k) (sym (extended_none n)) wrong);
-    }
+module _ (n : Network) (proper : Proper n) (at : ℕ) (bytes : List ℕ) where
+  stops_here : (f : Fault) → Halts n at bytes f → Stops n at bytes f
+  stops_here f halts =
+      record {
+        more = [];
+        behind = bytes;
+        into = halts.into;
+        proper = subst Proper (sym (extended_none n)) proper;
+        text = refl;
+        place = halts.place ∙ ap (λ k. at + k) (sym (zero-add halts.into));
+        wrong = subst (λ m. NoContinuing m bytes f.refusal halts.into) (sym (extended_none n)) halts.wrong;
+      }
 
--- the same at the letter's own offset
-stops_at_letter : (n : Network) (at : ℕ) (bytes : List ℕ) (e : MapRefusal) (f : Fault) → Proper n → fault e at ≡ f → NoContinuing n bytes e 0 → Stops n at bytes f
-stops_at_letter n at bytes e f proper is = stops_here n at bytes e 0 f proper (ap (fault e) (add-zero at) ∙ is)
+  module _ (m : Network) (left : Rest) (j : Joins n at bytes m left) where
+    longer : (cs : List Connection) → extended m cs ≡ extended n (j.new ∷ cs)
+    longer cs = ap (λ m. extended m cs) j.longer ∙ extended_more n j.new cs
 
-cut_stops : (n : Network) (at l : ℕ) (bytes : List ℕ) (f : Fault) → Proper n → length bytes < 4 → cut {A = Network} 87 l at (at + length (l ∷ bytes)) ≡ Err f → Stops n at (l ∷ bytes) f
-cut_stops n at l bytes f proper short h =
-    ⊎_elim (λ c. subst (λ l. Stops n at (l ∷ bytes) f) (sym c.0) (stops_here n at (87 ∷ bytes) CutShort (length (87 ∷ bytes)) f proper c.1 (places_cut short)))
-    (λ c. stops_at_letter n at (l ∷ bytes) Letter f proper c.1 (no_connection c.0)) (cut_cases 87 l at (at + length (l ∷ bytes)) f h)
+    reads_later : (whole : Network) → Reads m left.bytes whole → Reads n bytes whole
+    reads_later whole r =
+        record { more = j.new ∷ r.more; text = j.text ∙ ap (λ bs. connection_text j.new ++ bs) r.text; whole = r.whole ∙ longer r.more; proper = r.proper }
 
-stops_later : (n : Network) (at l a b c d : ℕ) (bytes : List ℕ) (f : Fault) → Bytes (l ∷ a ∷ b ∷ c ∷ d ∷ bytes) → l ≡ 87
-    → Stops (with_connection n (connection a b c d)) (at + 5) bytes f → Stops n at (l ∷ a ∷ b ∷ c ∷ d ∷ bytes) f
-stops_later n at l a b c d bytes f low letter s =
-    let new = connection a b c d in
-    let same = extended_more n new s.more in
-    let place = s.place in
-    record {
-      more = new ∷ s.more;
-      rest = s.rest;
-      beyond = s.beyond;
-      proper = subst Proper same s.proper;
-      text = command_text l a b c d bytes (texts s.more ++ s.rest) low letter s.text;
-      place = omega arith;
-      wrong = subst (λ m. NoContinuing m s.rest f.refusal s.beyond) same s.wrong;
-    }
+    stops_later : (f : Fault) → Stops m left.at left.bytes f → Stops n at bytes f
+    stops_later f s =
+        let place = s.place in
+        let there = j.place in
+        record {
+          more = j.new ∷ s.more;
+          behind = s.behind;
+          into = s.into;
+          proper = subst Proper (longer s.more) s.proper;
+          text = j.text ∙ ap (λ bs. connection_text j.new ++ bs) s.text;
+          place = omega arith;
+          wrong = subst (λ m. NoContinuing m s.behind f.refusal s.into) (longer s.more) s.wrong;
+        }
 
--- a command is refused itself, or one behind it
-command_err : (n : Network) (at l a b c d : ℕ) (bytes : List ℕ) (f : Fault) → Proper n → connecting n at (l ∷ a ∷ b ∷ c ∷ d ∷ bytes) ≡ Err f
-    → Stops n at (l ∷ a ∷ b ∷ c ∷ d ∷ bytes) f ⊎ After n at l a b c d bytes (Err f)
-command_err n at l a b c d bytes f proper h =
-    ⊎_elim (λ no. inl (stops_at_letter n at _ Letter f proper no.1 (no_connection (other_letter l 87 no.0))))
-    (λ yes. let letter = letter_from_test l 87 yes.0 in ⊎_elim (λ k. inl (refused letter k)) (λ k. inr (joined_after n at l a b c d bytes k.0 (Err f) letter k.1 k.2)) (bind_err (blame at (joining n new)) (λ j. connecting j (at + 5) bytes) f yes.1))
-    (refused_or_passed (not (eqb l 87)) (fault Letter at) _ f h)
+pub connecting_tells : (most : ℕ) (n : Network) (at : ℕ) (bytes : List ℕ) → length bytes ≤ most → Bytes bytes → Proper n → MatchResult (connecting n 0 at bytes) (Reads n bytes) (Stops n at bytes)
+connecting_tells most n at [] fits low proper = record { more = []; text = refl; whole = sym (extended_none n); proper = proper }
+connecting_tells zero n at (b ∷ bytes) fits low proper = absurd (omega arith)
+connecting_tells (suc most) n at (b ∷ bytes) fits low proper =
+    by (connecting_tells most) (connected n (rest at (b ∷ bytes))) (connection_tells n proper at b bytes low)
   where
-    new : Connection
-    new = connection a b c d
+    by : ((m : Network) (k : ℕ) (bs : List ℕ) → length bs ≤ most → Bytes bs → Proper m → MatchResult (connecting m 0 k bs) (Reads m bs) (Stops m k bs)) → (x : Result (Network × Rest) Fault)
+        → MatchResult x (λ next. Joins n at (b ∷ bytes) next.0 next.1) (Halts n at (b ∷ bytes))
+        → MatchResult (x >>= λ next. connecting next.0 4 (at + 1) bytes) (Reads n (b ∷ bytes)) (Stops n at (b ∷ bytes))
+    by later (Err f) halts = stops_here n proper at (b ∷ bytes) f halts
+    by later (Ok next) joins =
+        let left = next.1 in
+        let shorter : length left.bytes ≤ most = let long = ap length joins.text in omega (arith, long) in
+        let fewer = subst Bytes (ap (λ bs. drop 5 bs) joins.text) (All-drop (λ x. x < 256) 5 (b ∷ bytes) low) in
+        let stands : Stands 87 4 (rest at (b ∷ bytes)) (two_bytes joins.new.first.0 ++ two_bytes joins.new.second.0) left = let place = joins.place in record { text = joins.text; whole = refl; place = omega arith } in
+        subst (λ r. MatchResult r (Reads n (b ∷ bytes)) (Stops n at (b ∷ bytes))) (sym (behind_connection next.0 at b bytes _ left stands))
+        (MatchResult-weaker (connecting next.0 0 left.at left.bytes) (later next.0 left.at left.bytes shorter fewer joins.proper)
+        (reads_later n proper at (b ∷ bytes) next.0 left joins) (stops_later n proper at (b ∷ bytes) next.0 left joins))
 
-    refused : l ≡ 87 → blame at (joining n new) ≡ Err f → Stops n at (l ∷ a ∷ b ∷ c ∷ d ∷ bytes) f
-    refused letter k =
-        let why = blame_err at (joining n new) f k in
-        subst (λ l. Stops n at (l ∷ a ∷ b ∷ c ∷ d ∷ bytes) f) (sym letter) (stops_at_letter n at _ why.0 f proper why.2 (connection_refused ((joining_tells.refused n new why.0).0 why.1)))
+-- ---- and back
 
-pub connecting_err : (n : Network) (at : ℕ) (bytes : List ℕ) (f : Fault) → Bytes bytes → Proper n → connecting n at bytes ≡ Err f → Stops n at bytes f
-connecting_err n at [] f low proper h = absurd (ok_no_err h)
-connecting_err n at (l ∷ []) f low proper h = cut_stops n at l [] f proper (omega arith) h
-connecting_err n at (l ∷ a ∷ []) f low proper h = cut_stops n at l (a ∷ []) f proper (omega arith) h
-connecting_err n at (l ∷ a ∷ b ∷ []) f low proper h = cut_stops n at l (a ∷ b ∷ []) f proper (omega arith) h
-connecting_err n at (l ∷ a ∷ b ∷ c ∷ []) f low proper h = cut_stops n at l (a ∷ b ∷ c ∷ []) f proper (omega arith) h
-connecting_err n at (l ∷ a ∷ b ∷ c ∷ d ∷ bytes) f low proper h =
-    ⊎_elim (λ s. s)
-    (λ step. stops_later n at l a b c d bytes f low step.0 (connecting_err (with_connection n (connection a b c d)) (at + 5) bytes f (bytes_behind_command l a b c d bytes low) ((joining_is_proper n (connection a b c d) proper).0 step.1) step.2))
-    (command_err n at l a b c d bytes f proper h)
+-- connections' texts are read, and then what stands behind them
+pub connecting_on : (cs : List Connection) (n : Network) (at : ℕ) (behind : List ℕ) → Proper (extended n cs) → connecting n 0 at (texts cs ++ behind) ≡ connecting (extended n cs) 0 (at + length (texts cs)) behind
+connecting_on [] n at behind proper = ap₂ (λ m k. connecting m 0 k behind) (sym (extended_none n)) (sym (add-zero at))
+connecting_on (c ∷ cs) n at behind proper =
+    let longer = subst Proper (sym (extended_more n c cs)) proper in
+    let front = proper_prefix n.places (n.connections ++ c ∷ []) cs longer in
+    let taken = (joining_is_proper n c (proper_front n c front)).1 front in
+    ap (λ x. x >>= λ next. connecting next.0 4 (at + 1) (drop 1 (connection_text c ++ (texts cs ++ behind)))) (connection_due n c at (texts cs ++ behind) ∙ ap (with_rest at (rest (at + 1 + 4) (texts cs ++ behind))) taken)
+    ∙ connecting_on cs (with_connection n c) (at + 1 + 1 + 1 + 1 + 1) behind longer ∙ ap₂ (λ m k. connecting m 0 k behind) (extended_more n c cs) (omega arith)
 
--- ---- what cannot go on is refused
-
-other_letter_stops : (n : Network) (at l : ℕ) (bytes : List ℕ) → (l ≡ 87 → ⊥) → connecting n at (l ∷ bytes) ≡ Err (fault Letter at)
-other_letter_stops n at l [] other = ap Err (cond-false _ _ _ (ne_eqb l 87 other))
-other_letter_stops n at l (a ∷ []) other = ap Err (cond-false _ _ _ (ne_eqb l 87 other))
-other_letter_stops n at l (a ∷ b ∷ []) other = ap Err (cond-false _ _ _ (ne_eqb l 87 other))
-other_letter_stops n at l (a ∷ b ∷ c ∷ []) other = ap Err (cond-false _ _ _ (ne_eqb l 87 other))
-other_letter_stops n at l (a ∷ b ∷ c ∷ d ∷ bytes) other = refused (not (eqb l 87)) (fault Letter at) _ (ap not (ne_eqb l 87 other))
-
-short_stops : (n : Network) (at : ℕ) (bytes : List ℕ) → length bytes < 4 → connecting n at (87 ∷ bytes) ≡ Err (fault CutShort (at + length (87 ∷ bytes)))
-short_stops n at [] short = refl
-short_stops n at (a ∷ []) short = refl
-short_stops n at (a ∷ b ∷ []) short = refl
-short_stops n at (a ∷ b ∷ c ∷ []) short = refl
-short_stops n at (a ∷ b ∷ c ∷ d ∷ bytes) short = absurd (omega arith)
-
-pub continuing_stops : (n : Network) (at : ℕ) (bytes : List ℕ) (e : MapRefusal) (k : ℕ) → NoContinuing n bytes e k → connecting n at bytes ≡ Err (fault e (at + k))
-continuing_stops n at bytes e k (no_connection {letter = l} {bytes = behind} other) = rw add-zero (other_letter_stops n at l behind other)
-continuing_stops n at bytes e k (places_cut {bytes = behind} short) = short_stops n at behind short
-continuing_stops n at bytes e k (connection_refused {a = a} {b = b} {c = c} {d = d} {bytes = behind} why) =
-    rw add-zero (ap (λ r. blame at r >>= λ j. connecting j (at + 5) behind) ((joining_tells.refused n (connection a b c d) e).1 why))
+-- what cannot go on is refused
+pub connecting_halts : (n : Network) (at : ℕ) (bytes : List ℕ) (e : MapRefusal) (k : ℕ) → NoContinuing n bytes e k → connecting n 0 at bytes ≡ Err (fault e (at + k))
+connecting_halts n at bytes e k (no_connection {b = b} {bytes = behind} {lack = lack} wrong) =
+    ap (λ x. joined n at x >>= λ next. connecting next.0 4 (at + 1) behind) (operands_missed 87 4 (rest at (b ∷ behind)) (missing lack (at + k)) (record { into = k; place = refl; wrong = wrong }))
+connecting_halts n at bytes e k (connection_refused {bytes = behind} c why) =
+    rw add-zero (ap (λ x. x >>= λ next. connecting next.0 4 (at + 1) (drop 1 (connection_text c ++ behind))) (connection_due n c at behind ∙ ap (with_rest at (rest (at + 1 + 4) behind)) ((joining_tells.refused n c e).1 why)))

@@ -1,138 +1,110 @@
 -- A list file is read exactly when it is laid out as one, and has a fault exactly where it is the first.
-use Rattle.std.proofs.Common.{◌≡◌, ℕ, ◌+◌, ◌<◌, not, eqb, List, [], ◌∷◌, ◌++◌, length, drop, Ok, Err, Result, refl, sym, ap, ◌∙◌, subst, ap₂, ⊎_elim, arith}
+use Rattle.std.proofs.Common.{◌≡◌, ℕ, ◌+◌, List, [], ◌∷◌, ◌++◌, length, Ok, Err, Result, MatchResult, refl, sym, ap, ◌∙◌, subst, zero-add, arith}
+use Rattle.std.proofs.lemmas.List.{append-nil}
+use Rattle.std.proofs.lemmas.Result.{MatchResult-at_ok, MatchResult-at_err, MatchResult-weaker}
+use Rattle.cursor.proofs.Commands.{bytes_behind, operands_missed, operands_read, operands_tell}
+use Rattle.cursor.proofs.Words.{pair_back, word_back}
+use Rattle.cursor.specs.Commands.{missing, operands}
+use Rattle.cursor.specs.Exactly.{Misses, Stands}
+use Rattle.cursor.specs.Rests.{Rest, rest}
+use Rattle.cursor.specs.Words.{Bytes, two_bytes, word}
+use Rattle.cursor.specs.declared.missing.Missing.{Missing}
 use Rattle.floor.specs.Checks.{◌>>=◌}
-use Rattle.floor.proofs.Chains.{ok_no_err, err_same, bind_ok, bind_err, bind_at, passed, refused, refused_or_passed}
+use Rattle.floor.proofs.Chains.{bind_at}
 use Rattle.maps.specs.Networks.{Network, Proper, bare, founding}
-use Rattle.maps.specs.declared.connection.Connection.{Connection}
 use Rattle.maps.proofs.Founding.{founding_ok, founding_gives, founding_tells}
 use Rattle.maps.specs.declared.refusal.MapRefusal.{MapRefusal}
-use Rattle.maps.specs.declared.refusal.MapRefusal.TheVariants.{Letter, CutShort}
 use Rattle.mapfile.specs.Faults.{fault}
-use Rattle.mapfile.specs.ListFiles.{word, blame, cut, beginning, connecting, list_reading}
-use Rattle.mapfile.specs.ListLayout.{list_text, Bytes, ListReadExactly, ListFault, at_beginning, at_command, NoBeginning, empty, no_count, count_cut, count_refused, ListFaultsExactly}
+use Rattle.mapfile.specs.ListFiles.{blame, connecting, list_reading, told}
+use Rattle.mapfile.specs.ListLayout.{count_text, list_text, ListReadExactly, ListFault, at_beginning, at_command, NoBeginning, NoContinuing, no_count, count_refused, ListFaultsExactly}
 use Rattle.mapfile.specs.declared.fault.Fault.{Fault}
-use Rattle.mapfile.proofs.ListCommands.{Stops, extended, texts, letter_from_test, other_letter, cut_cases, blame_ok, blame_err, connecting_ok, connecting_on, connecting_err, continuing_stops}
-use Rattle.mapfile.proofs.Words.{word_back, word_high, word_low}
-use Rattle.std.proofs.lemmas.List.{append-nil}
-use Rattle.std.proofs.lemmas.List.Elements.{All-drop}
-use Rattle.std.proofs.lemmas.Bool.{cond-false, ne_eqb}
+use Rattle.mapfile.proofs.ListCommands.{extended, texts, connecting_halts, connecting_on, connecting_tells}
 
--- what the bytes begin with, when they begin well
-record Begins (bytes : List ℕ) (n : Network) : Type 0 where
-  high : ℕ
-  low : ℕ
-  rest : List ℕ
-  text : bytes ≡ 80 ∷ high ∷ low ∷ rest
-  byte : low < 256
-  bytes_left : Bytes rest
-  founded : n ≡ bare (word high low)
-  proper : Proper (bare (word high low))
+-- what comes of the operands of `P`
+abbrev numbered : Result (List ℕ × Rest) Missing → Result (ℕ × Rest) Fault
+numbered read = told read >>= λ r. Ok (word r.0 0, r.1)
 
-begins_well : (bytes : List ℕ) (n : Network) → Bytes bytes → beginning bytes ≡ Ok n → Begins bytes n
-begins_well [] n fit h = absurd (ok_no_err (sym h))
-begins_well (l ∷ []) n fit h = absurd (ok_no_err (sym h))
-begins_well (l ∷ a ∷ []) n fit h = absurd (ok_no_err (sym h))
-begins_well (l ∷ a ∷ b ∷ bytes) n fit h =
-    let letter = passed (not (eqb l 80)) (fault Letter 0) _ n h in
-    let founded = founding_gives (word a b) n (blame_ok 0 (founding (word a b)) n letter.1) in
-    record {
-      high = a;
-      low = b;
-      rest = bytes;
-      text = ap (λ l. l ∷ a ∷ b ∷ bytes) (letter_from_test l 80 letter.0);
-      byte = fit 2 0 (omega arith);
-      bytes_left = All-drop (λ x. x < 256) 3 (l ∷ a ∷ b ∷ bytes) fit;
-      founded = founded.0;
-      proper = founded.1;
-    }
+abbrev behind_count : Result (List ℕ × Rest) Missing → Result Network Fault
+behind_count read = do
+  count ← numbered read
+  founded ← blame 0 (founding count.0)
+  connecting founded 0 count.1.at count.1.bytes
 
-module _ (bytes : List ℕ) (n : Network) (b : Begins bytes n) where
-  goes_on : (r : Result Network Fault) → connecting n 3 (drop 3 bytes) ≡ r → connecting (bare (word b.high b.low)) 3 b.rest ≡ r
-  goes_on r h = sym (ap₂ (λ n bs. connecting n 3 bs) b.founded (ap (drop 3) b.text)) ∙ h
+-- ---- what the reading tells
 
-  -- the bytes are the text of the connections behind, if these come first in what is left
-  text_of : (cs : List Connection) (rest : List ℕ) → b.rest ≡ texts cs ++ rest → bytes ≡ list_text (extended (bare (word b.high b.low)) cs) ++ rest
-  text_of cs rest e =
-      b.text ∙ ap (λ bs. 80 ∷ b.high ∷ b.low ∷ bs) e
-      ∙ ap₂ (λ x y. 80 ∷ x ∷ y ∷ (texts cs ++ rest)) (sym (word_high b.high b.low b.byte)) (sym (word_low b.high b.low b.byte))
+abbrev Laid : List ℕ → Network → Type 0
+Laid bytes n = Proper n × (bytes ≡ list_text n)
 
-text_when_read : (bytes : List ℕ) (n : Network) → Bytes bytes → list_reading bytes ≡ Ok n → Proper n × (bytes ≡ list_text n)
+abbrev Faulty : List ℕ → Fault → Type 0
+Faulty bytes f = ListFault bytes f.refusal f.offset
+
+faulty_at : (bytes : List ℕ) (f : Fault) (k : ℕ) → f.offset ≡ k → ListFault bytes f.refusal k → Faulty bytes f
+faulty_at bytes f k is h = subst (ListFault bytes f.refusal) (sym is) h
+
+module _ (places : ℕ) (left : Rest) (place : left.at ≡ 3) (low : Bytes left.bytes) where
+  whole : List ℕ
+  whole = count_text places ++ left.bytes
+
+  founding_told : (x : Result Network MapRefusal) → founding places ≡ x → MatchResult (blame 0 x >>= λ n. connecting n 0 left.at left.bytes) (Laid whole) (Faulty whole)
+  unfolding whole
+  founding_told (Err e) is = at_beginning (count_refused places ((founding_tells.refused places e).0 is))
+  founding_told (Ok n) is =
+      let founded = founding_gives places n is in
+      let bare_n = sym founded.0 in
+      MatchResult-weaker (connecting n 0 left.at left.bytes) (connecting_tells (length left.bytes) n left.at left.bytes (omega arith) low (subst Proper bare_n founded.1))
+      (λ m reads. (reads.proper, ap (λ bs. count_text places ++ bs) reads.text ∙ ap list_text (ap (λ n. extended n reads.more) bare_n ∙ sym reads.whole)))
+      (λ f stops. let there = stops.place in
+      let same = ap (λ n. extended n stops.more) (sym bare_n) in
+      faulty_at whole f (length (list_text (extended (bare places) stops.more)) + stops.into) (omega arith)
+      (at_command (extended (bare places) stops.more) stops.behind stops.into (subst Proper same stops.proper) (ap (λ bs. count_text places ++ bs) stops.text)
+      (subst (λ m. NoContinuing m stops.behind f.refusal stops.into) same stops.wrong)))
+
+list_tells : (bytes : List ℕ) → Bytes bytes → MatchResult (list_reading bytes) (Laid bytes) (Faulty bytes)
+unfolding list_reading whole
+list_tells bytes low = by (operands 80 2 (rest 0 bytes)) (operands_tell 80 2 (rest 0 bytes))
+  where
+    by : (x : Result (List ℕ × Rest) Missing) → MatchResult x (λ r. Stands 80 2 (rest 0 bytes) r.0 r.1) (Misses 80 2 (rest 0 bytes)) → MatchResult (behind_count x) (Laid bytes) (Faulty bytes)
+    by (Err m) misses = faulty_at bytes _ misses.into (misses.place ∙ zero-add misses.into) (at_beginning (no_count misses.wrong))
+    by (Ok read) stands =
+        let low = bytes_behind 80 2 (rest 0 bytes) read.0 read.1 stands low in
+        let place = stands.place in
+        subst (λ bs. MatchResult (behind_count (Ok read)) (Laid bs) (Faulty bs)) (sym (stands.text ∙ ap (λ ops. 80 ∷ (ops ++ read.1.bytes)) (sym (pair_back read.0 low.0 stands.whole))))
+        (founding_told (word read.0 0) read.1 (omega arith) low.1 (founding (word read.0 0)) refl)
+
+-- ---- and back
+
+-- the count is read, and then what stands behind it
+count_read : (places : ℕ) (behind : List ℕ) → list_reading (count_text places ++ behind) ≡ (blame 0 (founding places) >>= λ n. connecting n 0 3 behind)
 unfolding list_reading
-text_when_read bytes n fit h =
-    let step = bind_ok (beginning bytes) (λ j. connecting j 3 (drop 3 bytes)) n h in
-    let b = begins_well bytes step.0 fit step.1 in
-    let read = connecting_ok (bare (word b.high b.low)) 3 b.rest n b.bytes_left b.proper (goes_on bytes step.0 b (Ok n) step.2) in
-    let text = text_of bytes step.0 b read.more [] (read.text ∙ sym (append-nil (texts read.more))) in
-    (read.proper, text ∙ append-nil (list_text _) ∙ ap list_text (sym read.whole))
+count_read places behind =
+    ap behind_count (operands_read 80 2 (rest 0 (count_text places ++ behind)) (two_bytes places) (rest 3 behind) (record { text = refl; whole = refl; place = refl }))
+    ∙ ap (λ k. blame 0 (founding k) >>= λ n. connecting n 0 3 behind) (word_back places)
 
 -- a network's text is read, and then what stands behind it
-text_read : (n : Network) (rest : List ℕ) → Proper n → list_reading (list_text n ++ rest) ≡ connecting n (length (list_text n)) rest
-unfolding list_reading
-text_read n rest proper =
+text_read : (n : Network) (behind : List ℕ) → Proper n → list_reading (list_text n ++ behind) ≡ connecting n 0 (length (list_text n)) behind
+text_read n behind proper =
     let founded = founding_ok n.places proper.lawful.has_a_place proper.lawful.at_most_1024 in
-    bind_at (beginning (list_text n)) (λ j. connecting j 3 (texts n.connections ++ rest)) (bare n.places) (ap (λ k. blame 0 (founding k)) (word_back n.places) ∙ ap (blame 0) founded)
-    ∙ connecting_on n.connections (bare n.places) 3 rest proper ∙ ap (λ k. connecting n k rest) (omega arith)
+    count_read n.places (texts n.connections ++ behind) ∙ bind_at (blame 0 (founding n.places)) (λ j. connecting j 0 3 (texts n.connections ++ behind)) (bare n.places) (ap (blame 0) founded)
+    ∙ connecting_on n.connections (bare n.places) 3 behind proper ∙ ap (λ k. connecting n 0 k behind) (omega arith)
 
-read_when_text : (n : Network) → Proper n → list_reading (list_text n) ≡ Ok n
-read_when_text n proper = ap list_reading (sym (append-nil (list_text n))) ∙ text_read n [] proper
+laid_is_read : (n : Network) → Proper n → list_reading (list_text n) ≡ Ok n
+laid_is_read n proper = ap list_reading (sym (append-nil (list_text n))) ∙ text_read n [] proper
 
 pub list_read_exactly : (bytes : List ℕ) → Bytes bytes → ListReadExactly bytes
-list_read_exactly bytes fit n =
-    (text_when_read bytes n fit, λ h. ap list_reading h.1 ∙ read_when_text n h.0)
+list_read_exactly bytes low n =
+    (λ e. MatchResult-at_ok (Laid bytes) (Faulty bytes) n e (list_tells bytes low), λ h. ap list_reading h.1 ∙ laid_is_read n h.0)
 
--- ---- the first fault
-
-begins_wrong : (bytes : List ℕ) (e : MapRefusal) (k : ℕ) (f : Fault) → fault e k ≡ f → NoBeginning bytes e k → ListFault bytes f.refusal f.offset
-begins_wrong bytes e k f is wrong = subst (λ f. ListFault bytes f.refusal f.offset) is (at_beginning wrong)
-
-cut_count : (l : ℕ) (bytes : List ℕ) (f : Fault) → length bytes < 2 → cut {A = Network} 80 l 0 (length (l ∷ bytes)) ≡ Err f → ListFault (l ∷ bytes) f.refusal f.offset
-cut_count l bytes f short h =
-    ⊎_elim (λ c. subst (λ l. ListFault (l ∷ bytes) f.refusal f.offset) (sym c.0) (begins_wrong (80 ∷ bytes) CutShort (length (80 ∷ bytes)) f c.1 (count_cut short)))
-    (λ c. begins_wrong (l ∷ bytes) Letter 0 f c.1 (no_count c.0)) (cut_cases 80 l 0 (length (l ∷ bytes)) f h)
-
-begins_badly : (bytes : List ℕ) (f : Fault) → beginning bytes ≡ Err f → ListFault bytes f.refusal f.offset
-begins_badly [] f h = begins_wrong [] CutShort 0 f (err_same h) empty
-begins_badly (l ∷ []) f h = cut_count l [] f (omega arith) h
-begins_badly (l ∷ a ∷ []) f h = cut_count l (a ∷ []) f (omega arith) h
-begins_badly (l ∷ a ∷ b ∷ bytes) f h =
-    ⊎_elim (λ no. begins_wrong _ Letter 0 f no.1 (no_count (other_letter l 80 no.0)))
-    (λ yes. let why = blame_err 0 (founding (word a b)) f yes.1 in subst (λ l. ListFault (l ∷ a ∷ b ∷ bytes) f.refusal f.offset) (sym (letter_from_test l 80 yes.0)) (begins_wrong _ why.0 0 f why.2 (count_refused ((founding_tells.refused (word a b) why.0).0 why.1))))
-    (refused_or_passed (not (eqb l 80)) (fault Letter 0) _ f h)
-
-goes_wrong : (bytes : List ℕ) (n : Network) (f : Fault) (b : Begins bytes n) → Stops (bare (word b.high b.low)) 3 b.rest f → ListFault bytes f.refusal f.offset
-goes_wrong bytes n f b s =
-    let m = extended (bare (word b.high b.low)) s.more in
-    let place : length (list_text m) + s.beyond ≡ f.offset = let p = s.place in omega arith in
-    subst (ListFault bytes f.refusal) place (at_command m s.rest s.beyond s.proper (text_of bytes n b s.more s.rest s.text) s.wrong)
-
-first_fault : (bytes : List ℕ) (f : Fault) → Bytes bytes → list_reading bytes ≡ Err f → ListFault bytes f.refusal f.offset
+beginning_refused : (bytes : List ℕ) (e : MapRefusal) (k : ℕ) → NoBeginning bytes e k → list_reading bytes ≡ Err (fault e k)
 unfolding list_reading
-first_fault bytes f fit h =
-    ⊎_elim (begins_badly bytes f)
-    (λ k. let b = begins_well bytes k.0 fit k.1 in goes_wrong bytes k.0 f b (connecting_err (bare (word b.high b.low)) 3 b.rest f b.bytes_left b.proper (goes_on bytes k.0 b (Err f) k.2)))
-    (bind_err (beginning bytes) (λ j. connecting j 3 (drop 3 bytes)) f h)
-
-other_letter_refused : (l : ℕ) (bytes : List ℕ) → (l ≡ 80 → ⊥) → beginning (l ∷ bytes) ≡ Err (fault Letter 0)
-other_letter_refused l [] other = ap Err (cond-false _ _ _ (ne_eqb l 80 other))
-other_letter_refused l (a ∷ []) other = ap Err (cond-false _ _ _ (ne_eqb l 80 other))
-other_letter_refused l (a ∷ b ∷ bytes) other = refused (not (eqb l 80)) (fault Letter 0) _ (ap not (ne_eqb l 80 other))
-
-short_refused : (bytes : List ℕ) → length bytes < 2 → beginning (80 ∷ bytes) ≡ Err (fault CutShort (length (80 ∷ bytes)))
-short_refused [] short = refl
-short_refused (a ∷ []) short = refl
-short_refused (a ∷ b ∷ bytes) short = absurd (omega arith)
-
-beginning_refused : (bytes : List ℕ) (e : MapRefusal) (k : ℕ) → NoBeginning bytes e k → beginning bytes ≡ Err (fault e k)
-beginning_refused bytes e k empty = refl
-beginning_refused bytes e k (no_count {letter = l} {bytes = behind} other) = other_letter_refused l behind other
-beginning_refused bytes e k (count_cut {bytes = behind} short) = short_refused behind short
-beginning_refused bytes e k (count_refused {a = a} {b = b} why) = ap (blame 0) ((founding_tells.refused (word a b) e).1 why)
+beginning_refused bytes e k (no_count {lack = lack} wrong) = ap behind_count (operands_missed 80 2 (rest 0 bytes) (missing lack k) (record { into = k; place = sym (zero-add k); wrong = wrong }))
+beginning_refused bytes e k (count_refused {bytes = behind} places why) =
+    count_read places behind ∙ ap (λ x. blame 0 x >>= λ n. connecting n 0 3 behind) ((founding_tells.refused places e).1 why)
 
 fault_found : (bytes : List ℕ) (e : MapRefusal) (k : ℕ) → ListFault bytes e k → list_reading bytes ≡ Err (fault e k)
-unfolding list_reading
-fault_found bytes e k (at_beginning wrong) = ap (λ r. r >>= λ j. connecting j 3 (drop 3 bytes)) (beginning_refused bytes e k wrong)
-fault_found bytes e k (at_command n rest beyond proper text wrong) =
-    ap list_reading text ∙ text_read n rest proper ∙ continuing_stops n (length (list_text n)) rest e beyond wrong
+fault_found bytes e k (at_beginning wrong) = beginning_refused bytes e k wrong
+fault_found bytes e k (at_command n behind into proper text wrong) =
+    ap list_reading text ∙ text_read n behind proper ∙ connecting_halts n (length (list_text n)) behind e into wrong
 
 pub list_faults_exactly : (bytes : List ℕ) → Bytes bytes → ListFaultsExactly bytes
-list_faults_exactly bytes fit f = (first_fault bytes f fit, fault_found bytes f.refusal f.offset)
+list_faults_exactly bytes low f =
+    (λ e. MatchResult-at_err (Laid bytes) (Faulty bytes) f e (list_tells bytes low), fault_found bytes f.refusal f.offset)

@@ -5,7 +5,7 @@ use Rattle.maps.specs.declared.refusal.MapRefusal.TheVariants.{Ragged}
 use Rattle.mapfile.specs.Faults.{fault}
 use Rattle.mapfile.specs.GridFiles.{before_cells, body, cell}
 use Rattle.mapfile.specs.GridReads.{ReadsCell, ReadsRow, after_cells}
-use Rattle.mapfile.specs.declared.cursor.Cursor.{Cursor}
+use Rattle.cursor.specs.declared.reader.Cursor.{Cursor}
 use Rattle.mapfile.specs.declared.fault.Fault.{Fault}
 use Rattle.std.proofs.lemmas.List.{at_drop_more, at_drop_all}
 use Rattle.std.proofs.lemmas.Bool.{eq-eqb, ne_eqb, cases_lt}

@@ -1,9 +1,10 @@
 -- A fixed text is passed exactly where it stands, and a fault is where the bytes depart from it.
 use Rattle.std.proofs.Common.{◌≡◌, ℕ, zero, suc, ◌+◌, List, [], ◌∷◌, ◌++◌, length, Some, Ok, Err, refl, sym, ap, ap₂, ◌∙◌, add-zero, arith, MatchResult}
 use Rattle.maps.specs.declared.refusal.MapRefusal.TheVariants.{Headless}
+use Rattle.cursor.specs.Rests.{Rest}
 use Rattle.floor.proofs.Chains.{cond_tells}
 use Rattle.mapfile.specs.Faults.{fault}
-use Rattle.mapfile.specs.GridFiles.{Rest, after_text}
+use Rattle.mapfile.specs.GridFiles.{after_text}
 use Rattle.mapfile.specs.GridLayout.{Departs}
 use Rattle.mapfile.specs.declared.fault.Fault.{Fault}
 use Rattle.std.proofs.lemmas.Bool.{cond-false, cond-true, eq-eqb, ne_eqb}

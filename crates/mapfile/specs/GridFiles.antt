@@ -1,6 +1,7 @@
 -- Reading a grid file, front to back, to the grid or the first fault.
 use Rattle.std.specs.Prelude.{ℕ, zero, suc, ◌+◌, ◌-◌, ◌*◌, Bool, true, false, cond, not, ◌&&◌, List, [], ◌∷◌, Ok, Err, codes, Result, ◌==◌, nat_le}
 use Rattle.floor.specs.Checks.{refuse, ◌>>=◌, ◌>>◌}
+use Rattle.cursor.specs.Rests.{Rest}
 use Rattle.maps.specs.Grids.{Grid}
 use Rattle.maps.specs.Signs.{sign_of}
 use Rattle.maps.specs.declared.refusal.MapRefusal.TheVariants.{Headless, Gauge, Ragged, StrangeSign}
@@ -8,11 +9,6 @@ use Rattle.maps.specs.declared.sign.Sign.{Sign}
 use Rattle.maps.specs.declared.sign.Sign.TheVariants.{Free, Blocked, Strange}
 use Rattle.mapfile.specs.Faults.{fault}
 use Rattle.mapfile.specs.declared.fault.Fault.{Fault}
-
--- what is left to read, and the offset where it begins
-pub record Rest : Type 0 where
-  pub at : ℕ
-  pub bytes : List ℕ
 
 -- a number that was read, and what is left behind its line
 pub record Number : Type 0 where

@@ -1,15 +1,13 @@
 -- What the parts of the grid reader answer, in the terms of the reading that is defined.
 use Rattle.std.specs.Prelude.{◌≡◌, ℕ, suc, Bool, List, ◌++◌, Ok, Err, Result, ◌==◌}
 use Rattle.floor.specs.Checks.{◌>>=◌}
+use Rattle.cursor.specs.Rests.{rest_of}
+use Rattle.cursor.specs.declared.reader.Cursor.{Cursor}
 use Rattle.maps.specs.Grids.{Grid}
 use Rattle.maps.specs.Signs.{sign_of}
-use Rattle.mapfile.specs.GridFiles.{Rest, Number, before_cells, body, cell}
-use Rattle.mapfile.specs.declared.cursor.Cursor.{Cursor}
+use Rattle.mapfile.specs.GridFiles.{Number, before_cells, body, cell}
 use Rattle.mapfile.specs.declared.fault.Fault.{Fault}
 use Rattle.mapfile.specs.declared.grid.Heading.{Heading}
-
-abbrev pub rest_of : Cursor → Rest
-rest_of c = record { at = c.at; bytes = c.bytes.now }
 
 -- a number that was read, and what is left behind its line
 abbrev pub sized : ℕ × Cursor → Number

@@ -1,29 +1,29 @@
 -- The layout of a list file, and what its first fault is.
-use Rattle.std.specs.Prelude.{◌≡◌, ℕ, ◌+◌, ◌/◌, ◌%◌, ◌<◌, ◌↔◌, List, [], ◌∷◌, ◌++◌, length, Ok, Err, All, ◌≢◌}
+use Rattle.std.specs.Prelude.{◌≡◌, ℕ, ◌+◌, ◌↔◌, List, ◌∷◌, ◌++◌, length, Ok, Err}
+use Rattle.std.specs.List.{flat_map}
+use Rattle.cursor.specs.Exactly.{NoCommand}
+use Rattle.cursor.specs.Words.{two_bytes}
+use Rattle.cursor.specs.declared.missing.Lack.{Lack}
 use Rattle.maps.specs.Networks.{Network, NotFounded, NotJoined, Proper}
 use Rattle.maps.specs.declared.connection.Connection.{Connection}
 use Rattle.maps.specs.declared.refusal.MapRefusal.{MapRefusal}
-use Rattle.maps.specs.declared.refusal.MapRefusal.TheVariants.{Letter, CutShort}
-use Rattle.mapfile.specs.ListFiles.{word, connection, list_reading}
+use Rattle.mapfile.specs.Faults.{refusal_of}
+use Rattle.mapfile.specs.ListFiles.{list_reading}
 use Rattle.mapfile.specs.declared.fault.Fault.{Fault}
-use Rattle.std.specs.List.{flat_map}
 
 -- ---- the layout
 
--- a number in two bytes, the most significant one first
-abbrev pub two_bytes : ℕ → List ℕ
-two_bytes n = n / 256 ∷ n % 256 ∷ []
+-- `P` and the number of places
+abbrev pub count_text : ℕ → List ℕ
+count_text places = 80 ∷ two_bytes places
 
 -- `W` and its two places
 abbrev pub connection_text : Connection → List ℕ
 connection_text c = 87 ∷ (two_bytes c.first.0 ++ two_bytes c.second.0)
 
--- `P` and the number of places, then the connections in their order
+-- the number of places, then the connections in their order
 abbrev pub list_text : Network → List ℕ
-list_text n = 80 ∷ (two_bytes n.places ++ flat_map connection_text n.connections)
-
-abbrev pub Bytes : List ℕ → Type 0
-Bytes = All (λ b. b < 256)
+list_text n = count_text n.places ++ flat_map connection_text n.connections
 
 -- a network is read exactly when the bytes are its text
 abbrev pub ListReadExactly : List ℕ → Type 0
@@ -33,16 +33,13 @@ ListReadExactly bytes = (n : Network) → (list_reading bytes ≡ Ok n) ↔ Prop
 
 -- the file cannot begin like this
 pub data NoBeginning : List ℕ → MapRefusal → ℕ → Type 0 where
-  empty : NoBeginning [] CutShort 0
-  no_count : {letter : ℕ} {bytes : List ℕ} → (letter ≢ 80) → NoBeginning (letter ∷ bytes) Letter 0
-  count_cut : {bytes : List ℕ} → length bytes < 2 → NoBeginning (80 ∷ bytes) CutShort (length (80 ∷ bytes))
-  count_refused : {a b : ℕ} {bytes : List ℕ} {e : MapRefusal} → NotFounded (word a b) e → NoBeginning (80 ∷ a ∷ b ∷ bytes) e 0
+  no_count : {bytes : List ℕ} {lack : Lack} {k : ℕ} → NoCommand 80 2 bytes lack k → NoBeginning bytes (refusal_of lack) k
+  count_refused : {bytes : List ℕ} {e : MapRefusal} (places : ℕ) → NotFounded places e → NoBeginning (count_text places ++ bytes) e 0
 
--- a file that has come to this network cannot go on like this; the offset counts from here
+-- a file that has come to this network cannot go on like this, where it does not end; the offset counts from here
 pub data NoContinuing (n : Network) : List ℕ → MapRefusal → ℕ → Type 0 where
-  no_connection : {letter : ℕ} {bytes : List ℕ} → (letter ≢ 87) → NoContinuing n (letter ∷ bytes) Letter 0
-  places_cut : {bytes : List ℕ} → length bytes < 4 → NoContinuing n (87 ∷ bytes) CutShort (length (87 ∷ bytes))
-  connection_refused : {a b c d : ℕ} {bytes : List ℕ} {e : MapRefusal} → NotJoined n (connection a b c d) e → NoContinuing n (87 ∷ a ∷ b ∷ c ∷ d ∷ bytes) e 0
+  no_connection : {b : ℕ} {bytes : List ℕ} {lack : Lack} {k : ℕ} → NoCommand 87 4 (b ∷ bytes) lack k → NoContinuing n (b ∷ bytes) (refusal_of lack) k
+  connection_refused : {bytes : List ℕ} {e : MapRefusal} (c : Connection) → NotJoined n c e → NoContinuing n (connection_text c ++ bytes) e 0
 
 -- all before the offset is a network's text, and what stands there does not go on with it
 pub data ListFault (bytes : List ℕ) : MapRefusal → ℕ → Type 0 where

@@ -1,6 +1,7 @@
 ghost use Rattle.std.specs.Prelude.{◌≡◌, Some};
-ghost use Rattle.mapfile.specs.Faults.{fault, fault_text};
+ghost use Rattle.mapfile.specs.Faults.{fault, fault_text, missing_fault};
 
+use cursor::{Lack, Missing};
 use maps::MapRefusal;
 use std::error::Error;
 use std::fmt;
@@ -18,6 +19,18 @@ impl Fault {
         ensures { result ≡ fault refusal offset }
     {
         Fault { refusal, offset }
+    }
+}
+
+impl From<Missing> for Fault {
+    ghost from_gives = { λ m f. f ≡ missing_fault m };
+
+    fn from(missing: Missing) -> Fault {
+        let refusal = match missing.lack {
+            Lack::Letter => MapRefusal::Letter,
+            Lack::CutShort => MapRefusal::CutShort,
+        };
+        Fault::new(refusal, missing.offset)
     }
 }
 

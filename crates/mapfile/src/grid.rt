@@ -5,9 +5,10 @@ ghost use Rattle.mapfile.specs.GridFiles.{body, grid_reading};
 ghost use Rattle.mapfile.specs.GridLayout.{GridReadExactly, GridFaultsExactly};
 ghost use Rattle.mapfile.specs.GridReads.{ReadsCell, ReadsRow, behind_heading};
 
-use crate::cursor::Cursor;
 use crate::fault::Fault;
 use crate::memory::MapMemory;
+use crate::text::{after_text, size_line};
+use cursor::Cursor;
 use maps::{GridMap, MapRefusal, Sign, read_sign};
 
 // A heading that was read, and the rows behind it.
@@ -42,11 +43,11 @@ fn read_heading(bytes: &[u8]) -> Result<Heading<'_>, Fault>
     ensures reads { grid_reading bytes.now ≡ behind_heading result }
     ensures gauge { IfOk result (λ h. (h.height ≤ 32) × (h.width ≤ 32)) }
 {
-    let rest = Cursor { bytes, at: 0 }.after_text(b"type octile\nheight ")?;
-    let (height, rest) = rest.size_line()?;
-    let rest = rest.after_text(b"width ")?;
-    let (width, rest) = rest.size_line()?;
-    let rows = rest.after_text(b"map\n")?;
+    let rest = after_text(Cursor { bytes, at: 0 }, b"type octile\nheight ")?;
+    let (height, rest) = size_line(rest)?;
+    let rest = after_text(rest, b"width ")?;
+    let (width, rest) = size_line(rest)?;
+    let rows = after_text(rest, b"map\n")?;
     Ok(Heading {
         height,
         width,

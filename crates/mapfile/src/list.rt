@@ -1,14 +1,16 @@
-ghost use Rattle.std.specs.Prelude.{◌≡◌, ◌+◌, ◌^◌, ◌<◌, ◌≤◌, length, OnOk};
+ghost use Rattle.std.specs.Prelude.{◌≡◌};
 ghost use Rattle.std.specs.Result.{result_map_both};
+ghost use Rattle.cursor.specs.Rests.{rest_of};
 ghost use Rattle.maps.specs.ListMaps.{network_of};
-ghost use Rattle.mapfile.specs.ListFiles.{beginning, list_reading, word};
+ghost use Rattle.mapfile.specs.ListFiles.{connected, connection_at, counted, list_reading};
 ghost use Rattle.mapfile.specs.ListLayout.{ListReadExactly, ListFaultsExactly};
-ghost use Rattle.mapfile.specs.ListReads.{Connects};
+ghost use Rattle.mapfile.specs.ListReads.{before_rest};
 
 use crate::fault::Fault;
 use crate::memory::MapMemory;
+use cursor::{Cursor, Missing};
 use floor::Place;
-use maps::{Connection, ListMap, MapRefusal};
+use maps::{Connection, ListMap};
 
 // A map in the list layout, or the first fault.
 pub fn read_list<'m>(memory: &'m mut MapMemory, bytes: &[u8]) -> Result<&'m ListMap, Fault>
@@ -25,52 +27,41 @@ pub fn read_list<'m>(memory: &'m mut MapMemory, bytes: &[u8]) -> Result<&'m List
 fn fill_list(map: &mut ListMap, bytes: &[u8]) -> Result<(), Fault>
     ensures { list_reading bytes.now ≡ result_map_both (λ _. network_of map.new) (λ f. f) result }
 {
-    read_count(map, bytes)?;
-    for (i, command) in bytes[3..].chunks(5).enumerate() {
-        read_connection(map, command, 3 + 5 * i)?;
+    let (places, mut rest) = read_count(bytes)?;
+    map.found(places)
+        .map_err(|refusal| Fault::new(refusal, 0))?;
+    while !rest.bytes.is_empty() {
+        rest = connect(map, rest)?;
     }
     Ok(())
 }
 
-// The `P` command that the file begins with.
-fn read_count(map: &mut ListMap, bytes: &[u8]) -> Result<(), Fault>
-    ensures reads { beginning bytes.now ≡ result_map_both (λ _. network_of map.new) (λ f. f) result }
-    ensures long { OnOk result (3 ≤ length bytes.now) }
+// The number of places in the `P` command that the file begins with, and what is left behind it.
+fn read_count(bytes: &[u8]) -> Result<(u16, Cursor<'_>), Fault>
+    ensures { counted bytes.now ≡ result_map_both before_rest (λ f. f) result }
 {
-    match bytes {
-        [b'P', high, low, ..] => map
-            .found(word(*high, *low))
-            .map_err(|refusal| Fault::new(refusal, 0)),
-        [] | [b'P', ..] => Err(Fault::new(MapRefusal::CutShort, bytes.len())),
-        _ => Err(Fault::new(MapRefusal::Letter, 0)),
-    }
+    let (count, rest) = Cursor { bytes, at: 0 }.operands::<2>(b'P')?;
+    Ok((u16::from_be_bytes(count), rest))
 }
 
-// The `W` command at `at`, which may be cut short.
-fn read_connection(map: &mut ListMap, command: &[u8], at: usize) -> Result<(), Fault>
-    requires some { 0 < length command.now }
-    requires most { length command.now ≤ 5 }
-    requires fits { at + length command.now < 2 ^ 64 }
-    ensures reads { Connects command.now at (network_of map.old) (network_of map.new) result }
-    ensures long { OnOk result (length command.now ≡ 5) }
+// Joins the connection of the `W` command that is due, and gives what is left behind it.
+fn connect<'a>(map: &mut ListMap, rest: Cursor<'a>) -> Result<Cursor<'a>, Fault>
+    ensures { connected (network_of map.old) (rest_of rest.entry) ≡ result_map_both (λ left. (network_of map.new, rest_of left)) (λ f. f) result }
 {
-    match command {
-        [b'W', a, b, c, d] => {
-            let connection = Connection {
-                first: Place(word(*a, *b)),
-                second: Place(word(*c, *d)),
-            };
-            map.join(connection)
-                .map_err(|refusal| Fault::new(refusal, at))
-        }
-        [b'W', ..] => Err(Fault::new(MapRefusal::CutShort, at + command.len())),
-        _ => Err(Fault::new(MapRefusal::Letter, at)),
-    }
+    let (connection, left) = read_connection(rest)?;
+    map.join(connection)
+        .map_err(|refusal| Fault::new(refusal, rest.at))?;
+    Ok(left)
 }
 
-// Two bytes as a number, the most significant one first.
-fn word(high: u8, low: u8) -> u16
-    ensures { result ≡ word high low }
+// The connection of the `W` command that is due, and what is left behind it.
+pub fn read_connection(rest: Cursor<'_>) -> Result<(Connection, Cursor<'_>), Missing>
+    ensures { connection_at (rest_of rest.entry) ≡ result_map_both before_rest (λ m. m) result }
 {
-    u16::from_be_bytes([high, low])
+    let ([a, b, c, d], left) = rest.operands::<4>(b'W')?;
+    let connection = Connection {
+        first: Place(u16::from_be_bytes([a, b])),
+        second: Place(u16::from_be_bytes([c, d])),
+    };
+    Ok((connection, left))
 }

@@ -4,7 +4,7 @@ use Rattle.std.proofs.lemmas.List.{take-append-drop, length-take-le}
 use Rattle.std.proofs.lemmas.List.Elements.{All-cons, All-drop, All-nil, All-take}
 use Rattle.floor.specs.Checks.{◌>>=◌}
 use Rattle.floor.specs.Floor.{Lawful}
-use Rattle.mapfile.specs.ListLayout.{Bytes}
+use Rattle.cursor.specs.Words.{Bytes}
 use Rattle.splits.specs.Rules.{Rules, LawfulRules}
 use Rattle.plan.specs.Commands.{Found, before_others, commands, found, words}
 use Rattle.plan.specs.FirstFault.{file_ends, NoGoingOn, no_call, call_refused}

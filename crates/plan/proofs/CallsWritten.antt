@@ -7,7 +7,7 @@ use Rattle.std.proofs.lemmas.Bool.{ne_eqb}
 use Rattle.std.proofs.lemmas.Bool.Decides.{nat_tests}
 use Rattle.std.proofs.lemmas.List.Elements.{All-head, All-tail}
 use Rattle.floor.specs.Checks.{refuse, ◌>>=◌, ◌>>◌}
-use Rattle.mapfile.specs.ListLayout.{two_bytes}
+use Rattle.cursor.specs.Words.{two_bytes}
 use Rattle.splits.specs.Rules.{Rules, LawfulRules}
 use Rattle.plan.specs.Commands.{Item, commands, found, words}
 use Rattle.plan.specs.Cursors.{found_at}

@@ -5,8 +5,8 @@ use Rattle.std.proofs.lemmas.Bool.{eqb-true, eqb-false}
 use Rattle.std.proofs.lemmas.List.Elements.{All-drop}
 use Rattle.std.proofs.lemmas.Bool.Decides.{nat_tests}
 use Rattle.floor.specs.Checks.{refuse, ◌>>=◌, ◌>>◌}
-use Rattle.mapfile.specs.ListLayout.{Bytes, two_bytes}
-use Rattle.mapfile.proofs.Words.{word_high, word_low}
+use Rattle.cursor.specs.Words.{Bytes, two_bytes}
+use Rattle.cursor.proofs.Words.{word_high, word_low}
 use Rattle.motion.specs.declared.trip.Trip.{Trip}
 use Rattle.splits.specs.Operands.{byte, word}
 use Rattle.plan.specs.Faults.{call_fault, file_fault}

@@ -1,7 +1,7 @@
 -- A heading is read exactly when it is laid out as one, and its fault is the first.
 use Rattle.std.proofs.Common.{◌≡◌, ℕ, ◌+◌, ◌*◌, List, ◌++◌, length, Ok, Err, Result, refl, ap, ◌∙◌, sym, subst}
 use Rattle.floor.proofs.Chains.{ok_no_err, ok_same, err_same}
-use Rattle.mapfile.specs.ListLayout.{Bytes}
+use Rattle.cursor.specs.Words.{Bytes}
 use Rattle.plan.specs.FirstFault.{HeadingFault, HeadingFaultsExactly}
 use Rattle.plan.specs.Headings.{Heading, heading}
 use Rattle.plan.specs.Layout.{FewCarts, HeadingReadExactly, heading_text}

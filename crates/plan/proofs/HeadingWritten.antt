@@ -5,7 +5,7 @@ use Rattle.std.proofs.lemmas.Bool.{ne_eqb}
 use Rattle.std.proofs.lemmas.Bool.Decides.{Decides-and, nat_tests}
 use Rattle.floor.specs.Checks.{refuse, ◌>>=◌, ◌>>◌}
 use Rattle.floor.proofs.Deciding.{decides_leb, false_from_decides}
-use Rattle.mapfile.proofs.Words.{word_back}
+use Rattle.cursor.proofs.Words.{word_back}
 use Rattle.motion.specs.declared.trip.Trip.{Trip}
 use Rattle.splits.specs.Operands.{byte, word}
 use Rattle.plan.specs.Faults.{call_fault, file_fault}

@@ -3,8 +3,8 @@ use Rattle.std.proofs.Common.{◌≡◌, ℕ, zero, suc, ◌+◌, ◌*◌, ◌<�
 use Rattle.std.proofs.lemmas.List.Elements.{All-head, All-tail}
 use Rattle.std.specs.List.{flat_map}
 use Rattle.std.specs.Simd.{first_chunks}
-use Rattle.mapfile.specs.ListLayout.{Bytes, two_bytes}
-use Rattle.mapfile.proofs.Words.{word_back, word_high, word_low}
+use Rattle.cursor.specs.Words.{Bytes, two_bytes}
+use Rattle.cursor.proofs.Words.{word_back, word_high, word_low}
 use Rattle.splits.specs.Operands.{word}
 use Rattle.plan.specs.Commands.{words}
 

@@ -6,7 +6,7 @@ use Rattle.std.proofs.lemmas.List.Elements.{All-drop}
 use Rattle.floor.specs.Checks.{◌>>=◌, ◌>>◌}
 use Rattle.floor.specs.Floor.{Floor, Lawful}
 use Rattle.floor.proofs.Chains.{ok_no_err, ok_same, err_same}
-use Rattle.mapfile.specs.ListLayout.{Bytes}
+use Rattle.cursor.specs.Words.{Bytes}
 use Rattle.motion.specs.declared.trip.Trip.{Trip}
 use Rattle.splits.specs.Rules.{Rules, LawfulRules}
 use Rattle.plan.specs.Commands.{commands}

@@ -4,7 +4,7 @@ use Rattle.std.proofs.lemmas.Bool.{cases_Bool}
 use Rattle.std.proofs.lemmas.List.{nil_from_length}
 use Rattle.floor.specs.Floor.{Floor, Lawful}
 use Rattle.floor.proofs.Chains.{ok_same}
-use Rattle.mapfile.specs.ListLayout.{Bytes}
+use Rattle.cursor.specs.Words.{Bytes}
 use Rattle.splits.specs.Rules.{Rules, LawfulRules}
 use Rattle.plan.specs.Layout.{Settles}
 use Rattle.plan.specs.SoundAndComplete.{PlanOf, PlanSoundAndComplete, ProvesBound, ProvesLeast}

@@ -2,7 +2,7 @@
 use Rattle.std.specs.Prelude.{◌≡◌, ℕ, ◌+◌, ◌-◌, ◌*◌, ◌≤◌, true, ◌↔◌, List, [], ◌∷◌, ◌++◌, length, take, Some, Ok, All}
 use Rattle.std.specs.List.{flat_map}
 use Rattle.floor.specs.Floor.{Floor}
-use Rattle.mapfile.specs.ListLayout.{two_bytes}
+use Rattle.cursor.specs.Words.{two_bytes}
 use Rattle.motion.specs.declared.trip.Trip.{Trip}
 use Rattle.splits.specs.Rules.{Rules}
 use Rattle.plan.specs.Headings.{Heading, heading}

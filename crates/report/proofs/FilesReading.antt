@@ -6,7 +6,7 @@ use Rattle.floor.specs.Floor.{Lawful}
 use Rattle.floor.proofs.Chains.{ok_no_err, ok_same, err_same}
 use Rattle.maps.specs.AnyMaps.{Hall, listed, gridded, hall_floor}
 use Rattle.maps.specs.GridsLemmas.{grid_lawful}
-use Rattle.mapfile.specs.ListLayout.{Bytes}
+use Rattle.cursor.specs.Words.{Bytes}
 use Rattle.mapfile.proofs.FaultPlaces.{map_fault_within}
 use Rattle.mapfile.proofs.GridLayout.{grid_read_exactly, grid_faults_exactly}
 use Rattle.mapfile.proofs.ListLayout.{list_read_exactly, list_faults_exactly}

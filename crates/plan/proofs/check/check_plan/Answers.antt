@@ -1,4 +1,4 @@
-use Rattle.mapfile.proofs.ListSteps.{bytes_fit}
+use Rattle.cursor.proofs.Words.{bytes_fit}
 use Rattle.plan.proofs.SoundAndComplete.{plan_sound_and_complete}
 use Rattle.plan.proofs.check.check_plan.Goals as goal
 

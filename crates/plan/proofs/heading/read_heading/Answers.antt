@@ -1,4 +1,4 @@
-use Rattle.mapfile.proofs.ListSteps.{bytes_fit}
+use Rattle.cursor.proofs.Words.{bytes_fit}
 use Rattle.plan.proofs.HeadingTells.{heading_faults_exactly, heading_read_exactly}
 use Rattle.plan.proofs.heading.read_heading.Goals as goal
 

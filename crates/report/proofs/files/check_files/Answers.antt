@@ -1,4 +1,4 @@
-use Rattle.mapfile.proofs.ListSteps.{bytes_fit}
+use Rattle.cursor.proofs.Words.{bytes_fit}
 use Rattle.report.proofs.FilesReading.{files_sound_and_complete}
 use Rattle.report.proofs.files.check_files.Goals as goal
 

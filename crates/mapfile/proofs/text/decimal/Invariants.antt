@@ -1,5 +1,5 @@
 use Rattle.std.proofs.Common.{◌≡◌, ◌+◌, ◌-◌, ◌*◌, ◌^◌, ◌<◌, fold, take}
-use Rattle.mapfile.proofs.cursor.decimal.Given as goal
+use Rattle.mapfile.proofs.text.decimal.Given as goal
 
 -- the number so far
 abbrev pub invariant-loop-digit : goal.invariant-loop-digit

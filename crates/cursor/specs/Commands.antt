@@ -1,0 +1,26 @@
+-- Reading a command that is due: a letter, and so many operand bytes behind it.
+use Rattle.std.specs.Prelude.{ℕ, ◌+◌, List, [], ◌∷◌, length, take, drop, Ok, Err, Result, ◌==◌, nat_le, if◌then◌else◌}
+use Rattle.cursor.specs.Rests.{Rest, rest, rest_of}
+use Rattle.cursor.specs.declared.missing.Lack.{Lack}
+use Rattle.cursor.specs.declared.missing.Lack.TheVariants.{Letter, CutShort}
+use Rattle.cursor.specs.declared.missing.Missing.{Missing}
+use Rattle.cursor.specs.declared.reader.Cursor.{Cursor}
+
+abbrev pub missing : Lack → ℕ → Missing
+missing lack at = record { lack = lack; offset = at }
+
+-- the operands, and what is left behind them
+abbrev pub operands : ℕ → ℕ → Rest → Result (List ℕ × Rest) Missing
+operands due n left = from left.at left.bytes
+  where
+    from : ℕ → List ℕ → Result (List ℕ × Rest) Missing
+    from at [] = Err (missing CutShort at)
+    from at (letter ∷ bytes) =
+        if letter == due then
+        (if nat_le n (length bytes) then Ok (take n bytes, rest (at + 1 + n) (drop n bytes))
+        else Err (missing CutShort (at + 1 + length bytes)))
+        else Err (missing Letter at)
+
+-- operands that were read, and what is left behind them
+abbrev pub taken : List ℕ × Cursor → List ℕ × Rest
+taken p = (p.0, rest_of p.1)

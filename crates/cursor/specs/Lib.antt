@@ -1,0 +1,4 @@
+pub mod Words
+pub mod Rests
+pub mod Commands
+pub mod Exactly

@@ -1,0 +1,7 @@
+#![tactic(auto)]
+
+mod missing;
+mod reader;
+
+pub use missing::{Lack, Missing};
+pub use reader::Cursor;
