@@ -14,7 +14,7 @@ use tally::{Refusal, Standing, Verdict};
 // What a branch is split with.
 #[derive(Drop)]
 struct Splitting<'a> {
-    map: &'a AnyMap,
+    map: &'a AnyMap<'a>,
     trips: &'a [Trip],
     work: Workspace,
 }

@@ -10,11 +10,11 @@ mod words;
 
 use calls::tell_check;
 use hall::tell_hall;
-use mapfile::{ReadError, read_map};
+use mapfile::read_map;
 use maps::AnyMap;
 use opening::{tell_fault, tell_heading, trips_in};
 use plan::read_heading;
-use report::{ReportError, check_files};
+use report::{Memory, check_files};
 use std::fs::File;
 use std::io;
 use std::io::{ErrorKind, Read};
@@ -49,14 +49,12 @@ fn read_file(rt: &HostRuntime, name: &str) -> io::Result<Option<Vec<u8>>> {
 }
 
 fn tell(rt: &HostRuntime, map_bytes: &[u8], plan: &[u8]) -> anyhow::Result<()> {
-    match read_map(rt.alloc(), map_bytes) {
-        Ok(map) => {
-            tell_steps(rt, &map, map_bytes, plan)?;
-            tell_outcome(rt, map_bytes, plan)
-        }
-        Err(ReadError::Fault(fault)) => Ok(println!(rt; "{fault} ({})", fault.refusal)?),
-        Err(ReadError::NoMemory) => Err(ReadError::NoMemory.into()),
+    let mut memory = Memory::new(rt.alloc())?;
+    match read_map(&mut memory.map, map_bytes) {
+        Ok(map) => tell_steps(rt, &map, map_bytes, plan)?,
+        Err(fault) => return Ok(println!(rt; "{fault} ({})", fault.refusal)?),
     }
+    tell_outcome(rt, &mut memory, map_bytes, plan)
 }
 
 // The hall with the carts in it, and the plan.
@@ -77,11 +75,15 @@ fn tell_steps(rt: &HostRuntime, map: &AnyMap, map_bytes: &[u8], plan: &[u8]) -> 
 }
 
 // What `settle` prints.
-fn tell_outcome(rt: &HostRuntime, map: &[u8], plan: &[u8]) -> anyhow::Result<()> {
-    match check_files(rt.alloc(), map, plan) {
+fn tell_outcome(
+    rt: &HostRuntime,
+    memory: &mut Memory,
+    map: &[u8],
+    plan: &[u8],
+) -> anyhow::Result<()> {
+    match check_files(memory, map, plan) {
         Ok(standing) => println!(rt; "settle prints: {}", standing.verdict)?,
-        Err(ReportError::Fault(fault)) => println!(rt; "settle prints: {fault}")?,
-        Err(ReportError::NoMemory) => return Err(ReportError::NoMemory.into()),
+        Err(fault) => println!(rt; "settle prints: {fault}")?,
     }
     Ok(())
 }

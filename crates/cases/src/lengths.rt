@@ -1,6 +1,7 @@
 // Least lengths, where a cart can stand, and sums, on the small floor.
 use crate::scene::Scene;
 use floor::{Cart, Place, Tick};
+use maps::ListMap;
 use motion::{Ban, Length};
 use samples::{small_floor, small_trips, trip};
 use search::Branch;
@@ -11,12 +12,20 @@ const CART: Cart = Cart(0);
 const OTHER: Cart = Cart(1);
 
 pub fn run(rt: &HostRuntime) -> anyhow::Result<()> {
-    let mut scene = Scene::new(rt, small_floor(rt.alloc())?, small_trips())?;
+    let mut scene = Scene::new(
+        rt,
+        small_floor(ListMap::with_room(rt.alloc())?)?,
+        small_trips(),
+    )?;
     scene.tell_arrivals()?;
     scene.tell_closures()?;
     scene.tell_stands()?;
     scene.tell_sums()?;
-    let mut home = Scene::new(rt, small_floor(rt.alloc())?, [trip(4, 4), trip(0, 3)])?;
+    let mut home = Scene::new(
+        rt,
+        small_floor(ListMap::with_room(rt.alloc())?)?,
+        [trip(4, 4), trip(0, 3)],
+    )?;
     home.tell_least("from 4 to 4, late 0", CART, 10, &[late(0)])?;
     Ok(())
 }

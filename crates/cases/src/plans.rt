@@ -1,5 +1,5 @@
 // Whole plans on the small floor, by the line that is printed of them.
-use report::{ReportError, check_files};
+use report::{Memory, check_files};
 
 // The small floor's map file.
 const MAP: [u8; 23] = [
@@ -15,6 +15,7 @@ const ROUTES: [u8; 22] = [
 ];
 
 pub fn run(rt: &HostRuntime) -> anyhow::Result<()> {
+    let memory = &mut Memory::new(rt.alloc())?;
     let cases: [(&str, &[u8]); 5] = [
         ("the small floor's plan", b"T\x01\x00\x02XXZ"),
         ("split by tick 1", b"T\x01\x00\x01XXZ"),
@@ -23,36 +24,46 @@ pub fn run(rt: &HostRuntime) -> anyhow::Result<()> {
         ("bytes behind the end", b"T\x01\x00\x02XXZZ"),
     ];
     for (what, tree) in cases {
-        tell_plan(rt, what, &[&HEADING, &ROUTES, tree])?;
+        tell_plan(rt, memory, what, &[&HEADING, &ROUTES, tree])?;
     }
     tell_plan(
         rt,
+        memory,
         "a cart that stays",
         &[b"O\0\0\x01C\0\x03\0\x03R\0\0\0\x03XZ"],
     )?;
-    tell_deep(rt, "64 splits on a branch", 64)?;
-    tell_deep(rt, "65 splits on a branch", 65)
+    tell_deep(rt, memory, "64 splits on a branch", 64)?;
+    tell_deep(rt, memory, "65 splits on a branch", 65)
 }
 
 // So many splits, each of the left side of the one before, and no closing.
-fn tell_deep(rt: &HostRuntime, what: &str, splits: usize) -> anyhow::Result<()> {
+fn tell_deep(
+    rt: &HostRuntime,
+    memory: &mut Memory,
+    what: &str,
+    splits: usize,
+) -> anyhow::Result<()> {
     let mut tree = Vec::new(rt.alloc());
     for _ in 0..splits {
         tree.extend_from_slice(b"V\x00\x01\x00\x02\x00\x02")?;
     }
-    tell_plan(rt, what, &[&HEADING, &tree, b"Z"])
+    tell_plan(rt, memory, what, &[&HEADING, &tree, b"Z"])
 }
 
 // A plan of some parts.
-fn tell_plan(rt: &HostRuntime, what: &str, parts: &[&[u8]]) -> anyhow::Result<()> {
+fn tell_plan(
+    rt: &HostRuntime,
+    memory: &mut Memory,
+    what: &str,
+    parts: &[&[u8]],
+) -> anyhow::Result<()> {
     let mut plan = Vec::new(rt.alloc());
     for part in parts {
         plan.extend_from_slice(part)?;
     }
-    match check_files(rt.alloc(), &MAP, &plan) {
+    match check_files(memory, &MAP, &plan) {
         Ok(standing) => println!(rt; "{what}: {}", standing.verdict)?,
-        Err(ReportError::Fault(fault)) => println!(rt; "{what}: {fault}")?,
-        Err(ReportError::NoMemory) => return Err(ReportError::NoMemory.into()),
+        Err(fault) => println!(rt; "{what}: {fault}")?,
     }
     Ok(())
 }

@@ -6,7 +6,7 @@ use std::alloc::{AllocError, Global};
 use std::io;
 
 pub fn run(rt: &HostRuntime) -> anyhow::Result<()> {
-    let small = small_floor(rt.alloc())?;
+    let small = small_floor(ListMap::with_room(rt.alloc())?)?;
     let bay = trip(4, 2);
     tell_routes(rt, &small, bay)?;
     tell_long(rt, &small, bay, 255)?;

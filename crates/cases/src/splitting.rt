@@ -1,5 +1,6 @@
 // Splits where nothing is banned, at the edges of what is allowed.
 use crate::scene::Scene;
+use maps::ListMap;
 use samples::{line, trip};
 use search::Branch;
 use splits::{SplitRule, own_rules};
@@ -42,9 +43,14 @@ impl Scene<'_> {
     }
 }
 
+// So many places in a line, with more connections.
+fn line_of(rt: &HostRuntime, places: u16, more: &[(u16, u16)]) -> anyhow::Result<ListMap> {
+    Ok(line(ListMap::with_room(rt.alloc())?, places, more)?)
+}
+
 // Of several faults the first that is tested is told.
 fn tell_orders(rt: &HostRuntime) -> anyhow::Result<()> {
-    let map = line(rt.alloc(), 6, &[])?;
+    let map = line_of(rt, 6, &[])?;
     let mut scene = Scene::new(rt, map, [trip(0, 5), trip(5, 0)])?;
     scene.tell_splits(&[
         ("E, all wrong", b'E', &[0, 2, 0, 9, 0, 9, 255, 255]),
@@ -67,7 +73,7 @@ fn tell_orders(rt: &HostRuntime) -> anyhow::Result<()> {
 }
 
 fn tell_ticks(rt: &HostRuntime) -> anyhow::Result<()> {
-    let map = line(rt.alloc(), 6, &[])?;
+    let map = line_of(rt, 6, &[])?;
     let mut scene = Scene::new(rt, map, [trip(0, 5), trip(5, 0)])?;
     scene.tell_splits(&[
         ("V at tick 4,000", b'V', &[0, 1, 0, 1, 15, 160]),
@@ -81,7 +87,7 @@ fn tell_ticks(rt: &HostRuntime) -> anyhow::Result<()> {
 
 // Corridors of 0, 1, 63 and 64 steps, in a line of 66 places.
 fn tell_lengths(rt: &HostRuntime) -> anyhow::Result<()> {
-    let map = line(rt.alloc(), 66, &[])?;
+    let map = line_of(rt, 66, &[])?;
     let mut scene = Scene::new(rt, map, [trip(0, 65), trip(65, 0)])?;
     scene.tell_passing(&[
         ("K of length 0", [1, 2, 0, 1, 1]),
@@ -94,14 +100,13 @@ fn tell_lengths(rt: &HostRuntime) -> anyhow::Result<()> {
 
 // The corridor from 1 by 2 to 4, where more connections are made.
 fn tell_corridors(rt: &HostRuntime) -> anyhow::Result<()> {
-    let heap = rt.alloc();
     let way = [1, 2, 3, 7, 7];
     let trips = [trip(0, 5), trip(5, 0)];
     let within = [trip(2, 5), trip(5, 0)];
-    let mut plain = Scene::new(rt, line(heap, 6, &[])?, trips)?;
-    let mut bypass = Scene::new(rt, line(heap, 7, &[(1, 6), (6, 4)])?, trips)?;
-    let mut branching = Scene::new(rt, line(heap, 7, &[(2, 6)])?, trips)?;
-    let mut entered = Scene::new(rt, line(heap, 6, &[])?, within)?;
+    let mut plain = Scene::new(rt, line_of(rt, 6, &[])?, trips)?;
+    let mut bypass = Scene::new(rt, line_of(rt, 7, &[(1, 6), (6, 4)])?, trips)?;
+    let mut branching = Scene::new(rt, line_of(rt, 7, &[(2, 6)])?, trips)?;
+    let mut entered = Scene::new(rt, line_of(rt, 6, &[])?, within)?;
     plain.tell_passing(&[
         ("K by 7 and 7", way),
         ("K by 8 and 7", [1, 2, 3, 8, 7]),
@@ -117,8 +122,8 @@ fn tell_corridors(rt: &HostRuntime) -> anyhow::Result<()> {
 // A corridor into a dead end, and one around a ring.
 fn tell_ends(rt: &HostRuntime) -> anyhow::Result<()> {
     let trips = [trip(0, 5), trip(5, 0)];
-    let mut plain = Scene::new(rt, line(rt.alloc(), 6, &[])?, trips)?;
-    let mut ring = Scene::new(rt, line(rt.alloc(), 6, &[(5, 0)])?, trips)?;
+    let mut plain = Scene::new(rt, line_of(rt, 6, &[])?, trips)?;
+    let mut ring = Scene::new(rt, line_of(rt, 6, &[(5, 0)])?, trips)?;
     plain.tell_passing(&[
         ("K to the end of the line", [3, 4, 2, 4, 7]),
         ("K past the end of the line", [3, 4, 3, 4, 4]),

@@ -1,16 +1,18 @@
 use crate::{tell, tell_each};
+use mapfile::MapMemory;
 use std::io;
 
-pub fn run(rt: &HostRuntime) -> anyhow::Result<()> {
-    tell_headings(rt)?;
-    tell_sizes(rt)?;
-    tell_rows(rt)
+pub fn run(rt: &HostRuntime, memory: &mut MapMemory) -> anyhow::Result<()> {
+    tell_headings(rt, memory)?;
+    tell_sizes(rt, memory)?;
+    tell_rows(rt, memory)
 }
 
 // Texts that go wrong in their heading.
-fn tell_headings(rt: &HostRuntime) -> io::Result<()> {
+fn tell_headings(rt: &HostRuntime, memory: &mut MapMemory) -> io::Result<()> {
     tell_each(
         rt,
+        memory,
         &[
             ("a capital", b"Type octile\n"),
             (
@@ -36,7 +38,7 @@ fn tell_headings(rt: &HostRuntime) -> io::Result<()> {
 }
 
 // Heights and widths, each with so many rows and columns of free cells.
-fn tell_sizes(rt: &HostRuntime) -> anyhow::Result<()> {
+fn tell_sizes(rt: &HostRuntime, memory: &mut MapMemory) -> anyhow::Result<()> {
     for (height, width, rows, columns) in [
         ("0", "1", 0, 1),
         ("1", "1", 1, 1),
@@ -56,13 +58,13 @@ fn tell_sizes(rt: &HostRuntime) -> anyhow::Result<()> {
         let what = format!(in rt.alloc(); "height {height} and width {width}")?;
         let row = format!(in rt.alloc(); "{}\n", ".".repeat(rt.alloc(), columns)?)?;
         let cells = row.repeat(rt.alloc(), rows)?;
-        tell_grid(rt, &what, height, width, &cells)?;
+        tell_grid(rt, memory, &what, height, width, &cells)?;
     }
     Ok(())
 }
 
 // A few rows of signs, with something wrong but in the first two.
-fn tell_rows(rt: &HostRuntime) -> anyhow::Result<()> {
+fn tell_rows(rt: &HostRuntime, memory: &mut MapMemory) -> anyhow::Result<()> {
     for (what, height, width, cells) in [
         ("every sign", "1", "7", ".G@OTSW\n"),
         ("two rows", "2", "3", ".@.\n...\n"),
@@ -79,7 +81,7 @@ fn tell_rows(rt: &HostRuntime) -> anyhow::Result<()> {
         ("an empty line behind the last row", "1", "3", "...\n\n"),
         ("a row too many", "1", "3", "...\n...\n"),
     ] {
-        tell_grid(rt, what, height, width, cells)?;
+        tell_grid(rt, memory, what, height, width, cells)?;
     }
     Ok(())
 }
@@ -87,12 +89,13 @@ fn tell_rows(rt: &HostRuntime) -> anyhow::Result<()> {
 // One line for a grid with its heading as it is due, but for the numbers.
 fn tell_grid(
     rt: &HostRuntime,
+    memory: &mut MapMemory,
     what: &str,
     height: &str,
     width: &str,
     cells: &str,
 ) -> anyhow::Result<()> {
     let text = format!(in rt.alloc(); "type octile\nheight {height}\nwidth {width}\nmap\n{cells}")?;
-    tell(rt, what, text.as_bytes())?;
+    tell(rt, memory, what, text.as_bytes())?;
     Ok(())
 }

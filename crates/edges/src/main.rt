@@ -5,7 +5,7 @@ mod grids;
 mod lists;
 
 use floor::FloorMap;
-use mapfile::read_map;
+use mapfile::{MapMemory, read_map};
 use std::io;
 
 fn main(rt: HostRuntime) -> anyhow::Result<()> {
@@ -13,21 +13,27 @@ fn main(rt: HostRuntime) -> anyhow::Result<()> {
 }
 
 fn run(rt: &HostRuntime) -> anyhow::Result<()> {
-    lists::run(rt)?;
-    grids::run(rt)
+    // one memory for all of them, also behind a file that is refused
+    let mut memory = MapMemory::new(rt.alloc())?;
+    lists::run(rt, &mut memory)?;
+    grids::run(rt, &mut memory)
 }
 
 // A line for each file.
-pub fn tell_each(rt: &HostRuntime, files: &[(&str, &[u8])]) -> io::Result<()> {
+pub fn tell_each(
+    rt: &HostRuntime,
+    memory: &mut MapMemory,
+    files: &[(&str, &[u8])],
+) -> io::Result<()> {
     for &(what, bytes) in files {
-        tell(rt, what, bytes)?;
+        tell(rt, memory, what, bytes)?;
     }
     Ok(())
 }
 
 // One line for a file: how many places it has, or why it is refused.
-pub fn tell(rt: &HostRuntime, what: &str, bytes: &[u8]) -> io::Result<()> {
-    match read_map(rt.alloc(), bytes) {
+pub fn tell(rt: &HostRuntime, memory: &mut MapMemory, what: &str, bytes: &[u8]) -> io::Result<()> {
+    match read_map(memory, bytes) {
         Ok(map) => println!(rt; "{what}: {} places", map.places()),
         Err(why) => println!(rt; "{what}: {why}"),
     }

@@ -1,6 +1,6 @@
 // Floors of up to six places, one for each set of connections.
 use floor::Place;
-use maps::{Connection, ListMap, MapError};
+use maps::{Connection, ListMap};
 use std::alloc::Global;
 
 // The connections that six places can have. Those of fewer places stand first.
@@ -79,8 +79,9 @@ impl SmallFloor {
     }
 
     // The floor as a map that a check can be opened with.
-    pub fn list_map(&self, heap: Global) -> Result<ListMap, MapError> {
-        let mut map = ListMap::new(heap, self.places)?;
+    pub fn list_map(&self, heap: Global) -> anyhow::Result<ListMap> {
+        let mut map = ListMap::with_room(heap)?;
+        map.found(self.places)?;
         for &(p, q) in &CONNECTIONS {
             if self.joins(Place(p), Place(q)) {
                 map.join(Connection {

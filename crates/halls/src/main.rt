@@ -9,7 +9,7 @@ mod survey;
 
 use anyhow::Context;
 use floor::{FloorMap, Place, neighbours_of};
-use mapfile::read_map;
+use mapfile::{MapMemory, read_map};
 use maps::AnyMap;
 use std::fmt::Display;
 use std::{fs, io};
@@ -22,35 +22,36 @@ fn main(rt: HostRuntime) -> anyhow::Result<()> {
 fn run(rt: &HostRuntime) -> anyhow::Result<()> {
     let list = fs::read(rt, "hall.list")?;
     let grid = fs::read(rt, "hall.grid")?;
-    tell_list_hall(rt, list.as_slice())?;
-    tell_grid_hall(rt, grid.as_slice())?;
-    tell_damaged_list(rt, list.as_slice())?;
-    tell_damaged_grid(rt, grid.as_slice())?;
+    let memory = &mut MapMemory::new(rt.alloc())?;
+    tell_list_hall(rt, memory, list.as_slice())?;
+    tell_grid_hall(rt, memory, grid.as_slice())?;
+    tell_damaged_list(rt, memory, list.as_slice())?;
+    tell_damaged_grid(rt, memory, grid.as_slice())?;
     Ok(())
 }
 
-fn tell_list_hall(rt: &HostRuntime, bytes: &[u8]) -> anyhow::Result<()> {
-    tell_file(rt, "hall.list", bytes)?;
-    let map = read_hall(rt, bytes)?;
+fn tell_list_hall(rt: &HostRuntime, memory: &mut MapMemory, bytes: &[u8]) -> anyhow::Result<()> {
+    tell_file(rt, memory, "hall.list", bytes)?;
+    let map = read_hall(memory, bytes)?;
     carts::tell_list_carts(rt, &map)?;
     letters::tell_list_letters(rt, &map)?;
     checks::tell_checks(rt, &map)
 }
 
-fn tell_grid_hall(rt: &HostRuntime, bytes: &[u8]) -> anyhow::Result<()> {
-    tell_file(rt, "hall.grid", bytes)?;
-    let map = read_hall(rt, bytes)?;
+fn tell_grid_hall(rt: &HostRuntime, memory: &mut MapMemory, bytes: &[u8]) -> anyhow::Result<()> {
+    tell_file(rt, memory, "hall.grid", bytes)?;
+    let map = read_hall(memory, bytes)?;
     carts::tell_grid_carts(rt, &map)?;
     letters::tell_grid_letters(rt, &map)
 }
 
-fn read_hall(rt: &HostRuntime, bytes: &[u8]) -> anyhow::Result<AnyMap> {
-    read_map(rt.alloc(), bytes).context("the hall is not read")
+fn read_hall<'m>(memory: &'m mut MapMemory, bytes: &[u8]) -> anyhow::Result<AnyMap<'m>> {
+    read_map(memory, bytes).context("the hall is not read")
 }
 
 // What a file holds, or why it is refused.
-fn tell_file(rt: &HostRuntime, name: &str, bytes: &[u8]) -> io::Result<()> {
-    match read_map(rt.alloc(), bytes) {
+fn tell_file(rt: &HostRuntime, memory: &mut MapMemory, name: &str, bytes: &[u8]) -> io::Result<()> {
+    match read_map(memory, bytes) {
         Ok(map) => tell_map(rt, name, &map),
         Err(why) => println!(rt; "{name}: {why}"),
     }
@@ -89,6 +90,7 @@ pub fn tell_each<T: Display>(rt: &HostRuntime, items: &[T]) -> io::Result<()> {
 // A copy with another byte at `at`, told under what was done to it.
 fn tell_changed(
     rt: &HostRuntime,
+    memory: &mut MapMemory,
     done: &str,
     bytes: &[u8],
     at: usize,
@@ -98,41 +100,55 @@ fn tell_changed(
     if let Some(b) = copy.get_mut(at) {
         *b = byte;
     }
-    tell_file(rt, done, copy.as_slice())?;
+    tell_file(rt, memory, done, copy.as_slice())?;
     Ok(())
 }
 
 // A copy that ends before `end`.
-fn tell_cut(rt: &HostRuntime, done: &str, bytes: &[u8], end: usize) -> io::Result<()> {
-    tell_file(rt, done, &bytes[0..end.min(bytes.len())])
+fn tell_cut(
+    rt: &HostRuntime,
+    memory: &mut MapMemory,
+    done: &str,
+    bytes: &[u8],
+    end: usize,
+) -> io::Result<()> {
+    tell_file(rt, memory, done, &bytes[0..end.min(bytes.len())])
 }
 
 // A copy with one byte more.
-fn tell_longer(rt: &HostRuntime, done: &str, bytes: &[u8], byte: u8) -> anyhow::Result<()> {
+fn tell_longer(
+    rt: &HostRuntime,
+    memory: &mut MapMemory,
+    done: &str,
+    bytes: &[u8],
+    byte: u8,
+) -> anyhow::Result<()> {
     let mut copy = bytes.to_vec(rt.alloc())?;
     copy.push(byte)?;
-    tell_file(rt, done, copy.as_slice())?;
+    tell_file(rt, memory, done, copy.as_slice())?;
     Ok(())
 }
 
 // Copies with another byte each, one that is cut, and one with a byte more.
 fn tell_damaged(
     rt: &HostRuntime,
+    memory: &mut MapMemory,
     bytes: &[u8],
     changed: &[(&str, usize, u8)],
     (cut, end): (&str, usize),
     (longer, byte): (&str, u8),
 ) -> anyhow::Result<()> {
     for &(done, at, byte) in changed {
-        tell_changed(rt, done, bytes, at, byte)?;
+        tell_changed(rt, memory, done, bytes, at, byte)?;
     }
-    tell_cut(rt, cut, bytes, end)?;
-    tell_longer(rt, longer, bytes, byte)
+    tell_cut(rt, memory, cut, bytes, end)?;
+    tell_longer(rt, memory, longer, bytes, byte)
 }
 
-fn tell_damaged_list(rt: &HostRuntime, bytes: &[u8]) -> anyhow::Result<()> {
+fn tell_damaged_list(rt: &HostRuntime, memory: &mut MapMemory, bytes: &[u8]) -> anyhow::Result<()> {
     tell_damaged(
         rt,
+        memory,
         bytes,
         &[
             ("list, no places", 2, 0),
@@ -146,9 +162,10 @@ fn tell_damaged_list(rt: &HostRuntime, bytes: &[u8]) -> anyhow::Result<()> {
     )
 }
 
-fn tell_damaged_grid(rt: &HostRuntime, bytes: &[u8]) -> anyhow::Result<()> {
+fn tell_damaged_grid(rt: &HostRuntime, memory: &mut MapMemory, bytes: &[u8]) -> anyhow::Result<()> {
     tell_damaged(
         rt,
+        memory,
         bytes,
         &[
             ("grid, another heading", 5, b'O'),

@@ -8,6 +8,7 @@ ghost use Rattle.host.specs.Entry.{EntryAnswers};
 ghost use Rattle.report.specs.SoundAndComplete.{FilesSoundAndComplete};
 
 use outcome::outcome_of;
+use report::Memory;
 use std::alloc::Global;
 
 // The longest file that is read.
@@ -23,9 +24,9 @@ pub extern "C" fn settle_files(heap: Global, map: &[u8], plan: &[u8], out: &mut 
     if out.len() < 8 || map.len() > MOST_BYTES || plan.len() > MOST_BYTES {
         return 24;
     }
-    let Some(outcome) = outcome_of(heap, map, plan) else {
+    let Ok(mut memory) = Memory::new(heap) else {
         return 1;
     };
-    out[..8].copy_from_slice(&outcome);
+    out[..8].copy_from_slice(&outcome_of(&mut memory, map, plan));
     0
 }

@@ -1,21 +1,18 @@
-ghost use Rattle.std.specs.Prelude.{◌≡◌, length, IfSome};
+ghost use Rattle.std.specs.Prelude.{◌≡◌};
 ghost use Rattle.host.specs.Outcomes.{fault_bytes, kind_of, outcome_bytes, standing_bytes};
 ghost use Rattle.tally.specs.Standings.{number_in};
 ghost use Rattle.report.specs.Files.{files_reading};
 
-use report::{Fault, ReportError, check_files};
-use std::alloc::Global;
+use report::{Fault, Memory, check_files};
 use tally::{Standing, Verdict};
 
-// What the two files come to: none where memory is wanting.
-pub fn outcome_of(heap: Global, map: &[u8], plan: &[u8]) -> Option<[u8; 8]>
-    ensures told { IfSome result (λ bytes. bytes ≡ outcome_bytes (files_reading map.now plan.now)) }
-    ensures eight { IfSome result (λ bytes. length bytes ≡ 8) }
+// What the two files come to.
+pub fn outcome_of(memory: &mut Memory, map: &[u8], plan: &[u8]) -> [u8; 8]
+    ensures { result ≡ outcome_bytes (files_reading map.now plan.now) }
 {
-    match check_files(heap, map, plan) {
-        Ok(standing) => Some(standing_bytes(standing)),
-        Err(ReportError::Fault(fault)) => Some(fault_bytes(fault)),
-        Err(ReportError::NoMemory) => None,
+    match check_files(memory, map, plan) {
+        Ok(standing) => standing_bytes(standing),
+        Err(fault) => fault_bytes(fault),
     }
 }
 

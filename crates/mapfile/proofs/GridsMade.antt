@@ -5,12 +5,17 @@ use Rattle.floor.specs.Checks.{◌>>=◌}
 use Rattle.maps.proofs.Gridding.{gridding_is_sized}
 use Rattle.maps.specs.Grids.{Grid, gridding}
 use Rattle.maps.specs.declared.refusal.MapRefusal.{MapRefusal}
+use Rattle.mapfile.proofs.FaultAnswers.{stage_fault}
 use Rattle.mapfile.proofs.GridLayout.{grid_read_exactly}
 use Rattle.mapfile.specs.GridFiles.{body, grid_reading}
 use Rattle.mapfile.specs.GridReads.{behind_heading}
+use Rattle.mapfile.specs.declared.fault.Fault.{Fault}
 use Rattle.mapfile.specs.declared.grid.Heading.{Heading}
 
 module _ (bytes : List ℕ) (h : Heading) (headed : grid_reading bytes ≡ behind_heading (Ok h)) where
+  pub not_filled : (f : Fault) → body h.height h.width h.width h.rows.at h.rows.bytes.now ≡ Err f → grid_reading bytes ≡ Err f
+  not_filled f faulty = headed ∙ stage_fault (body h.height h.width h.width h.rows.at h.rows.bytes.now) (λ cells. Ok (record { height = h.height; width = h.width; free = cells })) f faulty
+
   module _ (free : List Bool) (filled : body h.height h.width h.width h.rows.at h.rows.bytes.now ≡ Ok free) where
     abbrev grid : Grid
     grid = record { height = h.height; width = h.width; free = free }

@@ -1,5 +1,6 @@
 -- A map file is read exactly when it is laid out as a list or as a grid: the first byte tells the two apart.
 use Rattle.std.proofs.Common.{◌≡◌, ℕ, Bool, true, false, ◌↔◌, List, Ok, Err, Result, MatchResult, sym, ap, ◌∙◌, subst, ⊎_elim}
+use Rattle.std.specs.Result.{result_map_both}
 use Rattle.floor.specs.Checks.{◌>>=◌}
 use Rattle.floor.proofs.Chains.{ok_no_err, ok_same, bind_ok, bind_err, bind_at}
 use Rattle.maps.specs.AnyMaps.{Hall, hall_of, listed, gridded}
@@ -11,9 +12,7 @@ use Rattle.mapfile.specs.ListFiles.{list_reading}
 use Rattle.mapfile.specs.ListLayout.{list_text, ListReadExactly, ListFaultsExactly}
 use Rattle.mapfile.specs.MapFiles.{is_list, reading_as, map_reading, MapText, MapReadExactly, FaultAs, MapFaultsExactly}
 use Rattle.mapfile.specs.declared.fault.Fault.{Fault}
-use Rattle.mapfile.specs.declared.fault.ReadError.{ReadError}
-use Rattle.mapfile.proofs.FaultAnswers.{stage_error, stage_fault}
-use Rattle.mapfile.specs.Faults.{Answers}
+use Rattle.mapfile.proofs.FaultAnswers.{stage_fault}
 use Rattle.maps.specs.declared.any.AnyMap.{AnyMap}
 use Rattle.std.proofs.lemmas.Bool.{both_ways}
 
@@ -42,10 +41,10 @@ module _ (bytes : List ℕ) where
     kind_reads x e = is ∙ bind_at reading (λ x. Ok (kind x)) x e
 
     -- and what is made of an answer of that kind is an answer of either
-    pub kind_answers : {T : Type 0} (means : T → X) (wrap : T → AnyMap) → ((t : T) → hall_of (wrap t) ≡ kind (means t)) → (r : Result T ReadError) → Answers means reading r → (told : Result AnyMap ReadError) → MatchResult r (λ t. told ≡ Ok (wrap t)) (λ e. told ≡ Err e)
-        → Answers hall_of (map_reading bytes) told
+    pub kind_answers : {T : Type 0} (means : T → X) (wrap : T → AnyMap) → ((t : T) → hall_of (wrap t) ≡ kind (means t)) → (r : Result T Fault) → reading ≡ result_map_both means (λ f. f) r → (told : Result AnyMap Fault)
+        → MatchResult r (λ t. told ≡ Ok (wrap t)) (λ f. told ≡ Err f) → map_reading bytes ≡ result_map_both hall_of (λ f. f) told
     kind_answers means wrap wraps (Ok t) answer told tells = rw (tells, wraps t) (kind_reads (means t) answer)
-    kind_answers means wrap wraps (Err e) answer told tells = rw tells (stage_error (map_reading bytes) reading (λ x. Ok (kind x)) is e answer)
+    kind_answers means wrap wraps (Err f) answer told tells = rw tells (is ∙ stage_fault reading (λ x. Ok (kind x)) f answer)
 
     kind_fails : (f : Fault) → (map_reading bytes ≡ Err f) ↔ (reading ≡ Err f)
     kind_fails f = (

@@ -1,14 +1,12 @@
 -- The rows of a grid, read sign by sign.
-use Rattle.std.proofs.Common.{◌≡◌, ℕ, zero, suc, ◌+◌, ◌-◌, ◌<◌, ◌≤◌, min, eqb, Bool, List, [], ◌∷◌, ◌++◌, length, get_or, drop, Ok, Err, Result, IfSome, ⊎_elim, sym, refl, ap, ◌∙◌, append_assoc, append-nil, sub-one, arith}
+use Rattle.std.proofs.Common.{◌≡◌, ℕ, zero, suc, ◌+◌, ◌-◌, ◌<◌, ◌≤◌, min, eqb, Bool, List, [], ◌∷◌, ◌++◌, length, get_or, drop, Ok, Err, Result, ⊎_elim, sym, refl, ap, ◌∙◌, append_assoc, append-nil, sub-one, arith}
 use Rattle.maps.specs.Signs.{sign_of}
 use Rattle.maps.specs.declared.refusal.MapRefusal.TheVariants.{Ragged}
-use Rattle.mapfile.specs.Faults.{fault, fault_of}
+use Rattle.mapfile.specs.Faults.{fault}
 use Rattle.mapfile.specs.GridFiles.{before_cells, body, cell}
 use Rattle.mapfile.specs.GridReads.{ReadsCell, ReadsRow, after_cells}
 use Rattle.cursor.specs.declared.reader.Cursor.{Cursor}
 use Rattle.mapfile.specs.declared.fault.Fault.{Fault}
-use Rattle.mapfile.specs.declared.fault.ReadError.{ReadError}
-use Rattle.mapfile.specs.declared.fault.ReadError.TheVariants.{Fault as Faulty, NoMemory}
 use Rattle.std.proofs.lemmas.List.{at_drop_more, at_drop_all}
 use Rattle.std.proofs.lemmas.Bool.{eq-eqb, ne_eqb, cases_lt}
 
@@ -66,9 +64,8 @@ module _ (all : Result (List Bool) Fault) (height count width : ℕ) (row : Curs
     pub row_read : (more : List Bool) (rest : Cursor) → ReadsRow width row cells more (Ok rest) → all ≡ after_cells more (body (height - (count + 1)) width width rest.at rest.bytes.now)
     row_read more rest reads = due_row ∙ reads (height - (count + 1))
 
-    pub row_stops : (more : List Bool) (e : ReadError) → ReadsRow width row cells more (Err e) → IfSome (fault_of e) (λ f. all ≡ Err f)
-    row_stops more (Faulty f) reads = due_row ∙ reads (height - (count + 1))
-    row_stops more NoMemory reads = tt
+    pub row_stops : (more : List Bool) (f : Fault) → ReadsRow width row cells more (Err f) → all ≡ Err f
+    row_stops more f reads = due_row ∙ reads (height - (count + 1))
 
   module _ (done : height ≤ count) where
     last_read : all ≡ after_cells cells (body 0 width width row.at row.bytes.now)

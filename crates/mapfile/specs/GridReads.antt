@@ -7,8 +7,6 @@ use Rattle.maps.specs.Grids.{Grid}
 use Rattle.maps.specs.Signs.{sign_of}
 use Rattle.mapfile.specs.GridFiles.{Number, before_cells, body, cell}
 use Rattle.mapfile.specs.declared.fault.Fault.{Fault}
-use Rattle.mapfile.specs.declared.fault.ReadError.{ReadError}
-use Rattle.mapfile.specs.declared.fault.ReadError.TheVariants.{Fault as Faulty, NoMemory}
 use Rattle.mapfile.specs.declared.grid.Heading.{Heading}
 
 -- a number that was read, and what is left behind its line
@@ -28,10 +26,9 @@ after_cells cells (Ok others) = Ok (cells ++ others)
 after_cells cells (Err f) = Err f
 
 -- one row leads from the cells so far to more, whatever rows are to follow, or is refused
-abbrev pub ReadsRow : ℕ → Cursor → List Bool → List Bool → Result Cursor ReadError → Type 0
+abbrev pub ReadsRow : ℕ → Cursor → List Bool → List Bool → Result Cursor Fault → Type 0
 ReadsRow width row before after (Ok rest) = (rows : ℕ) → after_cells before (body (suc rows) width width row.at row.bytes.now) ≡ after_cells after (body rows width width rest.at rest.bytes.now)
-ReadsRow width row before after (Err (Faulty f)) = (rows : ℕ) → after_cells before (body (suc rows) width width row.at row.bytes.now) ≡ Err f
-ReadsRow width row before after (Err NoMemory) = Unit {0}
+ReadsRow width row before after (Err f) = (rows : ℕ) → after_cells before (body (suc rows) width width row.at row.bytes.now) ≡ Err f
 
 -- a cell that was read, before the cells behind it
 abbrev pub before_others : Result Bool Fault → Result (List Bool) Fault → Result (List Bool) Fault

@@ -7,3 +7,4 @@ pub mod GridLayout
 pub mod GridReads
 pub mod MapFiles
 pub mod Leading
+pub mod Memories

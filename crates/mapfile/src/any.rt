@@ -1,24 +1,24 @@
 ghost use Rattle.std.specs.Prelude.{◌≡◌};
+ghost use Rattle.std.specs.Result.{result_map_both};
 ghost use Rattle.maps.specs.AnyMaps.{hall_of};
-ghost use Rattle.mapfile.specs.Faults.{Answers};
 ghost use Rattle.mapfile.specs.MapFiles.{is_list, map_reading, MapReadExactly, MapFaultsExactly};
 
-use crate::fault::ReadError;
+use crate::fault::Fault;
 use crate::grid::read_grid;
 use crate::list::read_list;
+use crate::memory::MapMemory;
 use maps::AnyMap;
-use std::alloc::Global;
 
-// A map in either layout.
-pub fn read_map(heap: Global, bytes: &[u8]) -> Result<AnyMap, ReadError>
-    ensures reads { Answers hall_of (map_reading bytes.now) result }
+// A map in either layout, or the first fault. It lies in the memory, and is gone when another is read there.
+pub fn read_map<'m>(memory: &'m mut MapMemory, bytes: &[u8]) -> Result<AnyMap<'m>, Fault>
+    ensures reads { map_reading bytes.now ≡ result_map_both hall_of (λ f. f) result }
     ensures exactly { MapReadExactly bytes.now }
     ensures faults { MapFaultsExactly bytes.now }
 {
     if is_list(bytes) {
-        read_list(heap, bytes).map(AnyMap::List)
+        read_list(memory, bytes).map(AnyMap::List)
     } else {
-        read_grid(heap, bytes).map(AnyMap::Grid)
+        read_grid(memory, bytes).map(AnyMap::Grid)
     }
 }
 

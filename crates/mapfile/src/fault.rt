@@ -1,10 +1,8 @@
 ghost use Rattle.std.specs.Prelude.{◌≡◌, Some};
-ghost use Rattle.mapfile.specs.Faults.{fault, fault_text, error_text, missing_fault};
-ghost use Rattle.mapfile.specs.declared.fault.ReadError.TheVariants.{Fault as Faulty, NoMemory};
+ghost use Rattle.mapfile.specs.Faults.{fault, fault_text, missing_fault};
 
 use cursor::{Lack, Missing};
 use maps::MapRefusal;
-use std::alloc::AllocFailed;
 use std::error::Error;
 use std::fmt;
 use std::fmt::{Display, Formatter};
@@ -14,14 +12,6 @@ use std::fmt::{Display, Formatter};
 pub struct Fault {
     pub refusal: MapRefusal,
     pub offset: usize,
-}
-
-// Why a map file was not read. As `MapError`, but of a fault: a type of each crate, since one for both would only say
-// that memory can be wanting, and not of what.
-#[derive(Clone, Copy, PartialEq, Eq, Debug)]
-pub enum ReadError {
-    Fault(Fault),
-    NoMemory,
 }
 
 impl Fault {
@@ -44,22 +34,6 @@ impl From<Missing> for Fault {
     }
 }
 
-impl From<Fault> for ReadError {
-    ghost from_gives = { λ f r. r ≡ Faulty f };
-
-    fn from(f: Fault) -> ReadError {
-        ReadError::Fault(f)
-    }
-}
-
-impl<T: Drop> From<AllocFailed<T>> for ReadError {
-    ghost from_gives = { λ _ r. r ≡ NoMemory };
-
-    fn from(_e: AllocFailed<T>) -> ReadError {
-        ReadError::NoMemory
-    }
-}
-
 impl Display for Fault {
     ghost output = { λ f. Some (fault_text f) };
 
@@ -68,17 +42,4 @@ impl Display for Fault {
     }
 }
 
-impl Display for ReadError {
-    ghost output = { λ e. Some (error_text e) };
-
-    fn fmt<W: fmt::Write>(&self, f: &mut Formatter<W>) -> fmt::Result {
-        match self {
-            Self::Fault(fault) => write!(f, "{fault}"),
-            Self::NoMemory => f.write_str("out of memory"),
-        }
-    }
-}
-
 impl Error for Fault {}
-
-impl Error for ReadError {}

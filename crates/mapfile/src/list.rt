@@ -2,31 +2,38 @@ ghost use Rattle.std.specs.Prelude.{◌≡◌};
 ghost use Rattle.std.specs.Result.{result_map_both};
 ghost use Rattle.cursor.specs.Rests.{rest_of};
 ghost use Rattle.maps.specs.ListMaps.{network_of};
-ghost use Rattle.maps.specs.Networks.{founding};
-ghost use Rattle.mapfile.specs.Faults.{Answers};
-ghost use Rattle.mapfile.specs.ListFiles.{blame, connected, connection_at, counted, list_reading};
+ghost use Rattle.mapfile.specs.ListFiles.{connected, connection_at, counted, list_reading};
 ghost use Rattle.mapfile.specs.ListLayout.{ListReadExactly, ListFaultsExactly};
-ghost use Rattle.mapfile.specs.ListReads.{before_rest, error_at};
+ghost use Rattle.mapfile.specs.ListReads.{before_rest};
 
-use crate::fault::{Fault, ReadError};
+use crate::fault::Fault;
+use crate::memory::MapMemory;
 use cursor::{Cursor, Missing};
 use floor::Place;
-use maps::{Connection, ListMap, MapError};
-use std::alloc::Global;
+use maps::{Connection, ListMap};
 
-// A map in the list layout.
-#[tactic(auto, unfolding(crate::specs::ListFiles::list_reading))]
-pub fn read_list(heap: Global, bytes: &[u8]) -> Result<ListMap, ReadError>
-    ensures reads { Answers network_of (list_reading bytes.now) result }
+// A map in the list layout, or the first fault.
+pub fn read_list<'m>(memory: &'m mut MapMemory, bytes: &[u8]) -> Result<&'m ListMap, Fault>
+    ensures reads { list_reading bytes.now ≡ result_map_both (λ map. network_of map.now) (λ f. f) result }
     ensures exactly { ListReadExactly bytes.now }
     ensures faults { ListFaultsExactly bytes.now }
 {
+    fill_list(&mut memory.list, bytes)?;
+    Ok(&memory.list)
+}
+
+// Makes of the map what the file says.
+#[tactic(auto, unfolding(crate::specs::ListFiles::list_reading))]
+fn fill_list(map: &mut ListMap, bytes: &[u8]) -> Result<(), Fault>
+    ensures { list_reading bytes.now ≡ result_map_both (λ _. network_of map.new) (λ f. f) result }
+{
     let (places, mut rest) = read_count(bytes)?;
-    let mut map = bare_map(heap, places)?;
+    map.found(places)
+        .map_err(|refusal| Fault::new(refusal, 0))?;
     while !rest.bytes.is_empty() {
-        rest = connect(&mut map, rest)?;
+        rest = connect(map, rest)?;
     }
-    Ok(map)
+    Ok(())
 }
 
 // The number of places in the `P` command that the file begins with, and what is left behind it.
@@ -35,23 +42,6 @@ fn read_count(bytes: &[u8]) -> Result<(u16, Cursor<'_>), Fault>
 {
     let (count, rest) = Cursor { bytes, at: 0 }.operands::<2>(b'P')?;
     Ok((u16::from_be_bytes(count), rest))
-}
-
-// A map without connections, as the file begins.
-fn bare_map(heap: Global, places: u16) -> Result<ListMap, ReadError>
-    ensures { Answers network_of (blame 0 (founding places)) result }
-{
-    ListMap::new(heap, places).map_err(|why| error_at(why, 0))
-}
-
-// Why no map was made, as an error of the file. No `From`, since the offset does not come with it.
-fn error_at(why: MapError, offset: usize) -> ReadError
-    ensures { result ≡ error_at why offset }
-{
-    match why {
-        MapError::Refused(refusal) => Fault::new(refusal, offset).into(),
-        MapError::NoMemory => ReadError::NoMemory,
-    }
 }
 
 // Joins the connection of the `W` command that is due, and gives what is left behind it.

@@ -1,4 +1,4 @@
-ghost use Rattle.std.specs.Prelude.{◌≡◌, ◌+◌, ◌-◌, ◌*◌, ◌^◌, ◌<◌, ◌≤◌, length, All, fold};
+ghost use Rattle.std.specs.Prelude.{◌≡◌, ◌+◌, ◌-◌, ◌*◌, ◌^◌, ◌<◌, ◌≤◌, length, All, IfOk, fold};
 ghost use Rattle.std.specs.Result.{result_map_both};
 ghost use Rattle.cursor.specs.Rests.{rest_of};
 ghost use Rattle.mapfile.specs.GridFiles.{after_text, number_line, size_line};
@@ -24,7 +24,8 @@ pub fn after_text<'a>(rest: Cursor<'a>, text: &[u8]) -> Result<Cursor<'a>, Fault
 
 // A number of one to three digits that is 1 to 32, and what is left behind its line.
 pub fn size_line(rest: Cursor<'_>) -> Result<(usize, Cursor<'_>), Fault>
-    ensures { size_line rest.entry.at rest.entry.bytes.now ≡ result_map_both sized (λ f. f) result }
+    ensures gauge { IfOk result (λ n. n.0 ≤ 32) }
+    ensures reads { size_line rest.entry.at rest.entry.bytes.now ≡ result_map_both sized (λ f. f) result }
 {
     let (size, behind) = number_line(rest)?;
     if !(1..=32).contains(&size) {

@@ -1,5 +1,5 @@
 -- When a connection is joined, and when it is refused.
-use Rattle.std.proofs.Common.{◌≡◌, ◌<◌, ◌≤◌, Bool, true, false, eqb, leb, ◌||◌, ◌⊎◌, ◌↔◌, Decides, length, Ok, Err, inl, inr, ⊎_elim, refl, sym, subst, ◌∙◌, arith}
+use Rattle.std.proofs.Common.{◌≡◌, ◌≤◌, Bool, true, false, eqb, leb, ◌||◌, ◌⊎◌, ◌↔◌, Decides, length, Err, inl, inr, ⊎_elim, refl, sym, subst, ◌∙◌, arith}
 use Rattle.std.proofs.lemmas.Bool.Decides.{Decides-eqb, Decides-or, not_from_Decides}
 use Rattle.floor.proofs.Chains.{err_same, ok_no_err, passes, refused}
 use Rattle.floor.proofs.Deciding.{decides_leb, false_from_decides}

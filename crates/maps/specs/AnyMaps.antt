@@ -12,8 +12,8 @@ pub data Hall : Type 0 where
   gridded : Grid → Hall
 
 abbrev pub hall_of : AnyMap → Hall
-hall_of (ListKind m) = listed (network_of m)
-hall_of (GridKind m) = gridded (grid_of m)
+hall_of (ListKind m) = listed (network_of m.now)
+hall_of (GridKind m) = gridded (grid_of m.now)
 
 abbrev pub hall_floor : Hall → Floor
 hall_floor (listed n) = network_floor n

@@ -62,6 +62,10 @@ NeighboursAreBeside g = (p q : ℕ) → Joined (grid_floor g) p q ↔ (free_at g
 
 -- ---- how one is made
 
+-- the smallest grid
+abbrev pub one_cell : Grid
+one_cell = record { height = 1; width = 1; free = true ∷ [] }
+
 -- cells for so many rows and columns
 unfoldable pub gridding : ℕ → ℕ → List Bool → Result Grid MapRefusal
 gridding height width free = do

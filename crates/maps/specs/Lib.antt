@@ -1,7 +1,7 @@
 pub mod Refusals
 pub mod Tables
 pub mod Members
-pub mod Made
+pub mod Changes
 pub mod Networks
 pub mod ListMaps
 pub mod Signs

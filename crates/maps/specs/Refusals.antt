@@ -1,7 +1,5 @@
--- The number and the word of each refusal, and what an error refuses.
-use Rattle.std.specs.Prelude.{ℕ, List, Some, None, codes, Option}
-use Rattle.maps.specs.declared.refusal.MapError.{MapError}
-use Rattle.maps.specs.declared.refusal.MapError.TheVariants.{Refused, NoMemory}
+-- The number and the word of each refusal.
+use Rattle.std.specs.Prelude.{ℕ, List, codes}
 use Rattle.maps.specs.declared.refusal.MapRefusal.{MapRefusal}
 use Rattle.maps.specs.declared.refusal.MapRefusal.TheVariants.{Headless, Gauge, Ragged, StrangeSign, Count, NoPlace, Twice, Crowded, Letter, CutShort}
 
@@ -28,12 +26,3 @@ word_of Twice = codes "twice"
 word_of Crowded = codes "crowded"
 word_of Letter = codes "letter"
 word_of CutShort = codes "cut short"
-
--- what an error refuses: nothing where memory is wanting
-abbrev pub refusal_of : MapError → Option MapRefusal
-refusal_of (Refused e) = Some e
-refusal_of NoMemory = None
-
-abbrev pub text_of : MapError → List ℕ
-text_of (Refused e) = word_of e
-text_of NoMemory = codes "out of memory"

@@ -9,17 +9,17 @@ use crate::grid::GridMap;
 use crate::list::ListMap;
 use floor::{FloorMap, Place};
 
-// A map of either kind: an enum and no `dyn`, since there are two and the meaning is told by kind.
-#[derive(Drop)]
-pub enum AnyMap {
-    List(ListMap),
-    Grid(GridMap),
+// A map of either kind, lent: an enum and no `dyn`, since there are two and the meaning is told by kind.
+#[derive(Clone, Copy)]
+pub enum AnyMap<'m> {
+    List(&'m ListMap),
+    Grid(&'m GridMap),
 }
 
-impl FloorMap for AnyMap {
+impl<'m> FloorMap for AnyMap<'m> {
     ghost floor = { λ m. hall_floor (hall_of m) };
 
-    ghost lawful = { elim [ List m ↦ (proper_map m).lawful | Grid m ↦ grid_lawful (grid_of m) (map_sized m) ] };
+    ghost lawful = { elim [ List m ↦ (proper_map m.now).lawful | Grid m ↦ grid_lawful (grid_of m.now) (map_sized m.now) ] };
 
     fn places(&self) -> usize {
         match self {

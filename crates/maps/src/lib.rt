@@ -12,5 +12,5 @@ pub use any::AnyMap;
 pub use connection::Connection;
 pub use grid::GridMap;
 pub use list::ListMap;
-pub use refusal::{MapError, MapRefusal};
+pub use refusal::MapRefusal;
 pub use sign::{Sign, read_sign};

@@ -7,9 +7,14 @@ use crate::connection::Connection;
 use arrayvec::ArrayVec;
 use floor::Place;
 
+mod founding;
+mod joining;
 pub mod methods;
 
-// A floor given by its connections. Their memory is there from the start, so that no connection can want any.
+const MOST_CONNECTIONS: usize = 4096;
+
+// A floor given by its connections. It has the memory of the largest one from the start, and is founded anew in it, so
+// that no floor and no connection can want any.
 #[derive(Drop)]
 pub struct ListMap {
     // the neighbours of each place
@@ -19,5 +24,5 @@ pub struct ListMap {
     ghost lawful: { ∥ Lawful (network_floor (record { places = rows.len; connections = connections.items })) ∥₁ },
     ghost tied: { (p : ℕ) → row_of rows.items p ≡ partners p connections.items },
     ghost few: { connections.len ≤ 4096 },
-    ghost room: { 4096 ≤ connections.cap },
+    ghost room: { (1024 ≤ rows.cap) × (4096 ≤ connections.cap) },
 }

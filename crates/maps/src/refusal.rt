@@ -1,8 +1,6 @@
 ghost use Rattle.std.specs.Prelude.{◌≡◌, Some};
-ghost use Rattle.maps.specs.Refusals.{number_of, word_of, text_of};
-ghost use Rattle.maps.specs.declared.refusal.MapError.TheVariants.{Refused, NoMemory};
+ghost use Rattle.maps.specs.Refusals.{number_of, word_of};
 
-use std::alloc::AllocError;
 use std::error::Error;
 use std::fmt;
 use std::fmt::{Display, Formatter};
@@ -40,29 +38,6 @@ impl MapRefusal {
     }
 }
 
-// Why a map could not be made.
-#[derive(Clone, Copy, PartialEq, Eq, Debug)]
-pub enum MapError {
-    Refused(MapRefusal),
-    NoMemory,
-}
-
-impl From<MapRefusal> for MapError {
-    ghost from_gives = { λ refusal e. e ≡ Refused refusal };
-
-    fn from(refusal: MapRefusal) -> MapError {
-        MapError::Refused(refusal)
-    }
-}
-
-impl From<AllocError> for MapError {
-    ghost from_gives = { λ _ e. e ≡ NoMemory };
-
-    fn from(_e: AllocError) -> MapError {
-        MapError::NoMemory
-    }
-}
-
 impl Display for MapRefusal {
     ghost output = { λ refusal. Some (word_of refusal) };
 
@@ -83,17 +58,4 @@ impl Display for MapRefusal {
     }
 }
 
-impl Display for MapError {
-    ghost output = { λ e. Some (text_of e) };
-
-    fn fmt<W: fmt::Write>(&self, f: &mut Formatter<W>) -> fmt::Result {
-        match self {
-            Self::Refused(refusal) => write!(f, "{refusal}"),
-            Self::NoMemory => f.write_str("out of memory"),
-        }
-    }
-}
-
 impl Error for MapRefusal {}
-
-impl Error for MapError {}

@@ -4,6 +4,7 @@
 mod single;
 
 use floor::FloorMap;
+use maps::ListMap;
 use samples::{line, trip};
 use search::{Branch, Workspace};
 use single::single_rule;
@@ -16,7 +17,7 @@ fn main(rt: HostRuntime) -> anyhow::Result<()> {
 
 fn run(rt: &HostRuntime) -> anyhow::Result<()> {
     let mut work = Workspace::new(rt.alloc())?;
-    let map = line(rt.alloc(), 2, &[])?;
+    let map = line(ListMap::with_room(rt.alloc())?, 2, &[])?;
     let trips = [trip(0, 1), trip(1, 0)];
     let branch = Branch {
         map: &map,

@@ -1,9 +1,7 @@
 -- A fault of the two files: its layer, number and offset, and how it is printed.
-use Rattle.std.specs.Prelude.{ℕ, List, Some, None, codes, Option}
+use Rattle.std.specs.Prelude.{ℕ, List}
 use Rattle.maps.specs.Refusals.{number_of as map_number}
 use Rattle.mapfile.specs.Faults.{fault_text as map_text}
-use Rattle.mapfile.specs.declared.fault.ReadError.{ReadError}
-use Rattle.mapfile.specs.declared.fault.ReadError.TheVariants.{Fault as Unread, NoMemory as NoMapMemory}
 use Rattle.plan.specs.Faults.{fault_text as plan_text, file_number}
 use Rattle.plan.specs.declared.fault.PlanRefusal.{PlanRefusal}
 use Rattle.plan.specs.declared.fault.PlanRefusal.TheVariants.{File as FileRefused, Call as CallRefused}
@@ -11,8 +9,6 @@ use Rattle.report.specs.declared.fault.Fault.{Fault}
 use Rattle.report.specs.declared.fault.Fault.TheVariants.{Map, Plan}
 use Rattle.report.specs.declared.fault.Layer.{Layer}
 use Rattle.report.specs.declared.fault.Layer.TheVariants.{Map as MapLayer, File as FileLayer, Call as CallLayer}
-use Rattle.report.specs.declared.fault.ReportError.{ReportError}
-use Rattle.report.specs.declared.fault.ReportError.TheVariants.{Fault as Faulty, NoMemory}
 use Rattle.tally.specs.Refusals.{number_of as call_number}
 
 abbrev pub layer_number : Layer → ℕ
@@ -45,20 +41,6 @@ abbrev pub file_of : Fault → List ℕ → List ℕ → List ℕ
 file_of (Map f) map plan = map
 file_of (Plan f) map plan = plan
 
--- the fault of an error: none where memory is wanting
-abbrev pub fault_of : ReportError → Option Fault
-fault_of (Faulty f) = Some f
-fault_of NoMemory = None
-
--- why the map was not read
-abbrev pub error_of_read : ReadError → ReportError
-error_of_read (Unread f) = Faulty (Map f)
-error_of_read NoMapMemory = NoMemory
-
 abbrev pub fault_text : Fault → List ℕ
 fault_text (Map f) = map_text f
 fault_text (Plan f) = plan_text f
-
-abbrev pub error_text : ReportError → List ℕ
-error_text (Faulty f) = fault_text f
-error_text NoMemory = codes "out of memory"

@@ -1,11 +1,8 @@
 ghost use Rattle.std.specs.Prelude.{◌≡◌, Some};
-ghost use Rattle.report.specs.Faults.{error_of_read, error_text, fault_text, layer_number, layer_of, number_of, offset_of};
-ghost use Rattle.report.specs.declared.fault.Fault.TheVariants.{Plan as PlanFault};
-ghost use Rattle.report.specs.declared.fault.ReportError.TheVariants.{Fault as Faulty, NoMemory};
+ghost use Rattle.report.specs.Faults.{fault_text, layer_number, layer_of, number_of, offset_of};
+ghost use Rattle.report.specs.declared.fault.Fault.TheVariants.{Map as MapFault, Plan as PlanFault};
 
-use mapfile::ReadError;
 use plan::PlanRefusal;
-use std::alloc::AllocError;
 use std::error::Error;
 use std::fmt;
 use std::fmt::{Display, Formatter};
@@ -68,37 +65,19 @@ impl Fault {
     }
 }
 
-// Why there is no standing.
-#[derive(Clone, Copy, PartialEq, Eq, Debug)]
-pub enum ReportError {
-    Fault(Fault),
-    NoMemory,
-}
+impl From<mapfile::Fault> for Fault {
+    ghost from_gives = { λ f r. r ≡ MapFault f };
 
-impl From<ReadError> for ReportError {
-    ghost from_gives = { λ e r. r ≡ error_of_read e };
-
-    fn from(error: ReadError) -> ReportError {
-        match error {
-            ReadError::Fault(fault) => ReportError::Fault(Fault::Map(fault)),
-            ReadError::NoMemory => ReportError::NoMemory,
-        }
+    fn from(fault: mapfile::Fault) -> Fault {
+        Fault::Map(fault)
     }
 }
 
-impl From<plan::Fault> for ReportError {
-    ghost from_gives = { λ f r. r ≡ Faulty (PlanFault f) };
+impl From<plan::Fault> for Fault {
+    ghost from_gives = { λ f r. r ≡ PlanFault f };
 
-    fn from(fault: plan::Fault) -> ReportError {
-        ReportError::Fault(Fault::Plan(fault))
-    }
-}
-
-impl From<AllocError> for ReportError {
-    ghost from_gives = { λ _ r. r ≡ NoMemory };
-
-    fn from(_: AllocError) -> ReportError {
-        ReportError::NoMemory
+    fn from(fault: plan::Fault) -> Fault {
+        Fault::Plan(fault)
     }
 }
 
@@ -113,17 +92,4 @@ impl Display for Fault {
     }
 }
 
-impl Display for ReportError {
-    ghost output = { λ e. Some (error_text e) };
-
-    fn fmt<W: fmt::Write>(&self, f: &mut Formatter<W>) -> fmt::Result {
-        match self {
-            ReportError::Fault(fault) => write!(f, "{fault}"),
-            ReportError::NoMemory => f.write_str("out of memory"),
-        }
-    }
-}
-
 impl Error for Fault {}
-
-impl Error for ReportError {}

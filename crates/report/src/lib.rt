@@ -2,6 +2,8 @@
 
 mod fault;
 mod files;
+mod memory;
 
-pub use fault::{Fault, Layer, ReportError};
+pub use fault::{Fault, Layer};
 pub use files::check_files;
+pub use memory::Memory;

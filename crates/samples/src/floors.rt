@@ -1,28 +1,27 @@
 ghost use Rattle.std.specs.Prelude.{◌≡◌, [], Ok};
+ghost use Rattle.std.specs.Result.{result_map_both};
 ghost use Rattle.maps.specs.ListMaps.{network_of};
-ghost use Rattle.maps.specs.Refusals.{refusal_of};
-ghost use Rattle.maps.specs.Made.{Made};
 ghost use Rattle.samples.specs.Floors.{between, connections_of, joining_all, line, lining, small_floor};
 
 use floor::Place;
-use maps::{Connection, ListMap, MapError};
-use std::alloc::Global;
+use maps::{Connection, ListMap, MapRefusal};
 
-// Five places: a way of four, and a bay at its third place.
+// Five places, in the memory of a map: a way of four, and a bay at its third place.
 #[tactic(auto, unfolding(maps::specs::Networks::founding, maps::specs::Networks::joining))]
-pub fn small_floor(heap: Global) -> Result<ListMap, MapError>
-    ensures { Made network_of refusal_of (Ok small_floor) result }
+pub fn small_floor(mut map: ListMap) -> Result<ListMap, MapRefusal>
+    ensures { Ok small_floor ≡ result_map_both network_of (λ e. e) result }
 {
-    join_all(ListMap::new(heap, 5)?, &[(0, 1), (1, 2), (2, 3), (2, 4)])
+    map.found(5)?;
+    join_all(map, &[(0, 1), (1, 2), (2, 3), (2, 4)])
 }
 
-// So many places in a line, with more connections.
+// So many places in a line, with more connections, in the memory of a map.
 #[tactic(auto, using(crate::proofs::Links::links_first), unfolding(maps::specs::Networks::founding, maps::specs::Networks::joining))]
-pub fn line(heap: Global, places: u16, more: &[(u16, u16)]) -> Result<ListMap, MapError>
-    ensures made { Made network_of refusal_of (lining places (connections_of more.now)) result }
+pub fn line(mut map: ListMap, places: u16, more: &[(u16, u16)]) -> Result<ListMap, MapRefusal>
+    ensures made { lining places (connections_of more.now) ≡ result_map_both network_of (λ e. e) result }
     ensures six { lining 6 [] ≡ Ok line }
 {
-    let mut map = ListMap::new(heap, places)?;
+    map.found(places)?;
     // by number: there is no list of places
     for p in 1..places {
         map.join(between(p - 1, p))?;
@@ -31,8 +30,8 @@ pub fn line(heap: Global, places: u16, more: &[(u16, u16)]) -> Result<ListMap, M
 }
 
 // The map with more connections, joined in turn.
-fn join_all(mut map: ListMap, pairs: &[(u16, u16)]) -> Result<ListMap, MapError>
-    ensures { Made network_of refusal_of (joining_all (network_of map) (connections_of pairs.now)) result }
+fn join_all(mut map: ListMap, pairs: &[(u16, u16)]) -> Result<ListMap, MapRefusal>
+    ensures { joining_all (network_of map) (connections_of pairs.now) ≡ result_map_both network_of (λ e. e) result }
 {
     for &(p, q) in pairs {
         map.join(between(p, q))?;

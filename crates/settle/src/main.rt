@@ -1,7 +1,7 @@
 // Checks the plan in plan.work on the floor in floor.map, and prints what it comes to in one line.
 #![tactic(auto)]
 
-use report::{ReportError, check_files};
+use report::{Memory, check_files};
 use std::fs::File;
 use std::io;
 use std::io::{ErrorKind, Read};
@@ -38,10 +38,10 @@ fn read_file(rt: &HostRuntime, name: &str) -> io::Result<Option<Vec<u8>>> {
 
 // The standing, or the fault.
 fn tell(rt: &HostRuntime, map: &[u8], plan: &[u8]) -> anyhow::Result<()> {
-    match check_files(rt.alloc(), map, plan) {
+    let mut memory = Memory::new(rt.alloc())?;
+    match check_files(&mut memory, map, plan) {
         Ok(standing) => println!(rt; "{}", standing.verdict)?,
-        Err(ReportError::Fault(fault)) => println!(rt; "{fault}")?,
-        Err(ReportError::NoMemory) => return Err(ReportError::NoMemory.into()),
+        Err(fault) => println!(rt; "{fault}")?,
     }
     Ok(())
 }

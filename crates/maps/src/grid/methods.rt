@@ -1,35 +1,38 @@
-ghost use Rattle.std.specs.Prelude.{◌≡◌};
+ghost use Rattle.std.specs.Prelude.{◌≡◌, IfOk};
+ghost use Rattle.maps.specs.Changes.{Changed};
 ghost use Rattle.maps.specs.GridMaps.{grid_of};
-ghost use Rattle.maps.specs.Made.{Made, RefusalTold};
-ghost use Rattle.maps.specs.Grids.{around, free_at, grid_floor, gridding, GriddingTells, NeighboursAreBeside, Sized};
+ghost use Rattle.maps.specs.Grids.{around, free_at, grid_floor, gridding, one_cell, GriddingTells, NeighboursAreBeside, Sized};
 ghost use Rattle.maps.specs.GridsLemmas.{grid_lawful};
 ghost use Rattle.maps.specs.GridMapsLemmas.{map_sized};
-ghost use Rattle.maps.specs.Refusals.{refusal_of};
 ghost use Rattle.floor.specs.Numbers.{numbers};
 
 use crate::grid::GridMap;
 use crate::grid::cells::Cells;
-use crate::refusal::MapError;
-use crate::rows::row_at;
+use crate::refusal::MapRefusal;
+use crate::rows::{MOST_PLACES, row_at};
 use floor::{FloorMap, Place};
-use std::alloc::Global;
+use std::alloc::{AllocError, Global};
 
 impl GridMap {
-    // A floor of so many rows and columns, from what is said of each cell.
+    // The memory of the largest grid: one of a single free cell, until another is laid out.
+    pub fn with_room(heap: Global) -> Result<GridMap, AllocError>
+        ensures { IfOk result (λ map. grid_of map ≡ one_cell) }
+    {
+        let cells = Cells::with_room(heap)?;
+        let mut rows = Vec::with_capacity(heap, MOST_PLACES)?;
+        cells.fill_rows(&mut rows);
+        Ok(GridMap { cells, rows })
+    }
+
+    // A floor of so many rows and columns, from what is said of each cell, in the place of the one before; or why not.
     #[tactic(auto, using(crate::proofs::Gridding::gridding_tells))]
-    pub fn new(
-        heap: Global,
-        height: usize,
-        width: usize,
-        free: Vec<bool>,
-    ) -> Result<GridMap, MapError>
-        ensures made { Made grid_of refusal_of (gridding height width free.items) result }
-        ensures refusal_told { RefusalTold refusal_of (gridding height width free.items) result }
+    pub fn lay(&mut self, height: usize, width: usize, free: &[bool]) -> Result<(), MapRefusal>
+        ensures change { Changed grid_of (gridding height width free.now) self.old self.new result }
         ensures tells { GriddingTells }
     {
-        let cells = Cells::new(height, width, free)?;
-        let rows = cells.rows(heap)?;
-        Ok(GridMap { cells, rows })
+        self.cells.lay(height, width, free)?;
+        self.cells.fill_rows(&mut self.rows);
+        Ok(())
     }
 
     // Whether there is a free cell at `p`.

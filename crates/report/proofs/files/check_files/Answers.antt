@@ -5,9 +5,6 @@ use Rattle.report.proofs.files.check_files.Goals as goal
 pub returns-in_err-map-clause-sound_and_complete : goal.returns-in_err-map-clause-sound_and_complete
 returns-in_err-map-clause-sound_and_complete c = files_sound_and_complete _ _ (bytes_fit _ c.type_inv.map) (bytes_fit _ c.type_inv.plan)
 
-pub returns-in_err-work-clause-sound_and_complete : goal.returns-in_err-work-clause-sound_and_complete
-returns-in_err-work-clause-sound_and_complete c = files_sound_and_complete _ _ (bytes_fit _ c.type_inv.map) (bytes_fit _ c.type_inv.plan)
-
 pub returns-in_err-standing-clause-sound_and_complete : goal.returns-in_err-standing-clause-sound_and_complete
 returns-in_err-standing-clause-sound_and_complete c = files_sound_and_complete _ _ (bytes_fit _ c.type_inv.map) (bytes_fit _ c.type_inv.plan)
 

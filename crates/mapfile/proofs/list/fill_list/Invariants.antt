@@ -1,7 +1,7 @@
 use Rattle.std.proofs.Common.{◌≡◌, length}
 use Rattle.maps.specs.ListMaps.{network_of}
 use Rattle.mapfile.specs.ListFiles.{connecting, list_reading}
-use Rattle.mapfile.proofs.list.read_list.Given as goal
+use Rattle.mapfile.proofs.list.fill_list.Given as goal
 
 -- what is left decides
 abbrev pub invariant-loop-rest : goal.invariant-loop-rest
