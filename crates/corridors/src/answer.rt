@@ -9,7 +9,7 @@ use motion::Ban;
 const LAST_TICK: Tick = Tick(4000);
 
 // Why a split is refused.
-#[derive(Clone, Copy, PartialEq, Eq)]
+#[derive(Clone, Copy)]
 pub enum Fault {
     // a cart that is not there, or one cart for both
     NoCart,

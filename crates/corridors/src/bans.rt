@@ -1,8 +1,8 @@
 // Floors, trips and bans that are drawn, with all corridors on them.
-use crate::arrangement::{Arrangement, runs};
+use crate::arrangement::runs;
 use crate::compare::Comparison;
 use crate::draw::{Draw, Drawn};
-use crate::lists::{BOTH_CARTS, ticks_of_walks};
+use crate::lists::{IN_BOTH_ORDERS, ticks_of_walks};
 use crate::operands::Ranges;
 use crate::setting::{Case, Setting};
 use crate::walks::all_walks;
@@ -46,7 +46,7 @@ fn try_corridors<'a>(
     };
     for c in &setting.corridors {
         let ranges = Ranges {
-            carts: &BOTH_CARTS,
+            carts: &IN_BOTH_ORDERS,
             places: &[(c.first, c.second)],
             lengths: &[c.length],
             ticks: ticks_of_walks(),

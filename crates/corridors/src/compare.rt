@@ -66,12 +66,16 @@ fn is_same(answer: Result<(Ban, Ban), Fault>, told: Result<(Ban, Ban), SplitRefu
 
 fn tell_difference(rt: &HostRuntime, case: &Case, o: Operands) -> io::Result<()> {
     let floor = case.setting.floor;
-    print!(rt; "difference on floor {} of {} places, trips", floor.number, floor.places)?;
+    print!(rt;
+        "difference on floor {} of {} places, trips",
+        floor.number, floor.places
+    )?;
     for trip in &case.trips {
         print!(rt; " {}-{}", trip.start, trip.target)?;
     }
     println!(rt;
-        ": K {} {} {} {} {} {} {}", o.a, o.b, o.p, o.q, o.k, o.m, o.n
+        ": K {} {} {} {} {} {} {}",
+        o.a, o.b, o.p, o.q, o.k, o.m, o.n
     )?;
     for ban in case.bans {
         println!(rt; "    {ban}")?;

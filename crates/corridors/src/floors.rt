@@ -23,7 +23,10 @@ pub fn tell_floors(rt: &HostRuntime, places: u16) -> anyhow::Result<u64> {
     let corridors = tour.corridors;
     let all = tour.all_operands.counts;
     let starts = tour.all_starts.counts;
-    println!(rt; "places {places}: {} floors, {corridors} corridors", floors.len())?;
+    println!(rt;
+        "places {places}: {} floors, {corridors} corridors",
+        floors.len()
+    )?;
     println!(rt; "    all operands: {all}")?;
     println!(rt; "    all starts: {starts}")?;
     Ok(all.differences.saturating_add(starts.differences))
@@ -86,12 +89,7 @@ impl<'a> Tour<'a> {
     }
 
     // One corridor, from all pairs of starts. These are gone through in both orders, so the carts need not be.
-    fn try_starts(
-        &mut self,
-        setting: &Setting,
-        walks: &[Walks],
-        c: &Corridor,
-    ) -> io::Result<()> {
+    fn try_starts(&mut self, setting: &Setting, walks: &[Walks], c: &Corridor) -> io::Result<()> {
         let ranges = Ranges {
             carts: &IN_ORDER,
             places: &[(c.first, c.second)],

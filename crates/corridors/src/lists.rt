@@ -15,10 +15,9 @@ pub const ALL_CARTS: [(Cart, Cart); 9] = [
     (Cart(2), Cart(2)),
 ];
 
-// The two carts, and the two in both orders.
 pub const IN_ORDER: [(Cart, Cart); 1] = [(Cart(0), Cart(1))];
 
-pub const BOTH_CARTS: [(Cart, Cart); 2] = [(Cart(0), Cart(1)), (Cart(1), Cart(0))];
+pub const IN_BOTH_ORDERS: [(Cart, Cart); 2] = [(Cart(0), Cart(1)), (Cart(1), Cart(0))];
 
 // No corridor on six places is longer than five.
 pub const LENGTHS: [u8; 9] = [0, 1, 2, 3, 4, 5, 6, 7, 64];
@@ -52,7 +51,11 @@ pub fn ticks_on(places: u16) -> &'static [Tick] {
 
 // Those that are tried for a corridor of this length.
 pub fn ticks_for(length: u8) -> &'static [Tick] {
-    if length == 1 { &TICKS[..8] } else { &TICKS[..12] }
+    if length == 1 {
+        &TICKS[..8]
+    } else {
+        &TICKS[..12]
+    }
 }
 
 // Those up to the steps of the longest walks.

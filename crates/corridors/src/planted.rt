@@ -41,7 +41,10 @@ fn one_later(case: &Case, o: Operands) -> Result<(Ban, Ban), Fault> {
     let (left, right) = case.answer(Operands { m, ..o })?;
     match left {
         Ban::Stand {
-            cart, place, first, ..
+            cart,
+            place,
+            first,
+            ..
         } => Ok((
             Ban::Stand {
                 cart,

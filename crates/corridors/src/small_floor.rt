@@ -113,7 +113,10 @@ pub fn first_of_each(heap: Global, places: u16) -> Result<Vec<SmallFloor>, Alloc
     let orders = arrangements(heap, places, places)?;
     let mut floors = Vec::new(heap);
     for number in 0..floor_count(places) {
-        if orders.iter().all(|order| number <= renumbered(number, order)) {
+        if orders
+            .iter()
+            .all(|order| number <= renumbered(number, order))
+        {
             floors.push(SmallFloor::new(places, number))?;
         }
     }
