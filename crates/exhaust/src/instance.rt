@@ -1,6 +1,7 @@
 // What the check says of one instance, beside what is found here.
 use crate::least_routes::{LeastRoutes, Route};
 use crate::plan::{Outcome, Plan};
+use crate::planted::Planted;
 use crate::small_floor::SmallFloor;
 use crate::tree::{NoTree, TreeCall, TreeSearch};
 use maps::ListMap;
@@ -20,6 +21,7 @@ pub struct Instance<'a> {
     pub trips: &'a [Trip],
     // how many splits a tree may have
     pub splits: u32,
+    pub planted: Planted,
 }
 
 // What came of an instance.
@@ -99,7 +101,7 @@ impl Instance<'_> {
             below: sum.checked_sub(1).map(|less| plan.outcome(work, less)),
             shorter,
         };
-        Finding::new(usize::from(sum), &outcomes)
+        Finding::new(usize::from(sum), &self.planted.replaced(outcomes))
     }
 
     fn plan<'b>(&'b self, routes: &'b [Route], tree: &'b [TreeCall]) -> Plan<'b> {
@@ -114,11 +116,11 @@ impl Instance<'_> {
 
 // What comes of the checks of an instance.
 #[derive(Clone, Copy)]
-struct Outcomes {
-    at_sum: Outcome,
-    above: Outcome,
-    below: Option<Outcome>,
-    shorter: Option<Outcome>,
+pub struct Outcomes {
+    pub at_sum: Outcome,
+    pub above: Outcome,
+    pub below: Option<Outcome>,
+    pub shorter: Option<Outcome>,
 }
 
 impl Finding {

@@ -4,6 +4,7 @@ use crate::counts::{Counts, add};
 use crate::instance::{Finding, Instance};
 use crate::joint::{JointStep, joint_steps};
 use crate::least_routes::LeastRoutes;
+use crate::planted::Planted;
 use crate::small_floor::SmallFloor;
 use crate::sums::{LeastSums, NONE};
 use floor::Place;
@@ -13,13 +14,15 @@ use search::Workspace;
 use std::alloc::{AllocError, Global};
 use std::io;
 
-// Goes through the instances of so many carts on the floors of these numbers, and tells each disagreement.
+// Goes through the instances of so many carts on the floors of these numbers, and tells each disagreement that is not
+// planted.
 pub fn go_through(
     rt: &HostRuntime,
     carts: u16,
     places: u16,
     floors: &[usize],
     splits: u32,
+    planted: Planted,
 ) -> anyhow::Result<Counts> {
     let stands = arrangements(rt.alloc(), places, carts)?;
     let mut scene = Scene {
@@ -27,6 +30,7 @@ pub fn go_through(
         work: Workspace::new(rt.alloc())?,
         stands: &stands,
         splits,
+        planted,
         counts: Counts::default(),
     };
     for number in floors {
@@ -49,6 +53,7 @@ struct Scene<'a> {
     work: Workspace,
     stands: &'a [Arrangement],
     splits: u32,
+    planted: Planted,
     counts: Counts,
 }
 
@@ -97,6 +102,7 @@ impl Scene<'_> {
             map: &setting.map,
             trips,
             splits: self.splits,
+            planted: self.planted,
         };
         let sum = found.least(start);
         if sum == NONE && !found.sums.cut {
@@ -123,8 +129,10 @@ impl Scene<'_> {
         }
         if let Some(what) = finding.disagreement {
             add(&mut counts.disagreements, 1);
-            print!(self.rt; "disagreement ")?;
-            tell_instance(self.rt, setting, trips, what)?;
+            if self.planted == Planted::Nothing {
+                print!(self.rt; "disagreement ")?;
+                tell_instance(self.rt, setting, trips, what)?;
+            }
         }
         Ok(())
     }

@@ -15,6 +15,7 @@ mod instances;
 mod joint;
 mod least_routes;
 mod plan;
+mod planted;
 mod renumbered;
 mod searches;
 mod small_floor;
@@ -26,6 +27,7 @@ mod walk;
 use anyhow::ensure;
 use bounds::Bounds;
 use instances::go_through;
+use planted::Planted;
 use renumbered::Taken;
 use small_floor::floor_count;
 
@@ -35,6 +37,8 @@ fn main(rt: HostRuntime) -> anyhow::Result<()> {
 
 fn run(rt: &HostRuntime) -> anyhow::Result<()> {
     let bounds = Bounds::read(rt)?;
+    searches::tell_planted(rt)?;
+    tell_planted(rt)?;
     let mut disagreements = searches::compare(rt, bounds.searches)?;
     for (carts, most) in (1..).zip(bounds.places) {
         let more = tell_carts(rt, carts, most, bounds.splits)?;
@@ -69,7 +73,20 @@ fn tell_floors(rt: &HostRuntime, carts: u16, places: u16, splits: u32) -> anyhow
         taken.covered
     )?;
     ensure!(taken.covered == all, "a floor is left out");
-    let counts = go_through(rt, carts, places, &taken.numbers, splits)?;
+    let counts = go_through(rt, carts, places, &taken.numbers, splits, Planted::Nothing)?;
     println!(rt; "{counts}")?;
     Ok(counts.disagreements)
+}
+
+// Each comparison is tried on two carts and three places with a difference planted, which it has to notice.
+fn tell_planted(rt: &HostRuntime) -> anyhow::Result<()> {
+    let floors = Taken::first_of_each(rt.alloc(), 3)?;
+    println!(rt; "planted with two carts on three places:")?;
+    for planted in planted::ALL {
+        let counts = go_through(rt, 2, 3, &floors.numbers, 100, planted)?;
+        let noticed = counts.disagreements;
+        println!(rt; "    {planted}: {noticed} disagreements")?;
+        ensure!(noticed > 0, "a disagreement is not noticed");
+    }
+    Ok(())
 }

@@ -3,6 +3,7 @@ use crate::all_walks::{AllWalks, STEPS};
 use crate::cart_route::CartRoute;
 use crate::draw::{Draw, Drawn};
 use crate::least_routes::steps_of;
+use anyhow::ensure;
 use floor::{Cart, Tick};
 use maps::ListMap;
 use motion::Length;
@@ -11,13 +12,56 @@ use std::io;
 
 const SEED: u64 = 42;
 
+// How many searches are tried with a difference planted.
+const FEW: u32 = 100;
+
 const CART: Cart = Cart(0);
+
+// Which length is taken to be one more, to see that the comparison notices it.
+#[derive(Clone, Copy, PartialEq, Eq)]
+enum Planted {
+    Nothing,
+    // that of the search of this program
+    InRoutes,
+    // that of the walks which the branch's answers are compared with
+    InWalks,
+}
 
 // Compares so many searches, and tells how many answered a length: how many disagreements there are.
 pub fn compare(rt: &HostRuntime, searches: u32) -> anyhow::Result<u64> {
+    let Compared {
+        arrived,
+        disagreements,
+    } = compare_all(rt, searches, Planted::Nothing)?;
+    println!(rt;
+        "{searches} searches under drawn bans: {arrived} with a least length of at most {STEPS}, {disagreements} disagreements"
+    )?;
+    Ok(disagreements)
+}
+
+// Each of the two comparisons of some searches has to notice a difference that is planted.
+pub fn tell_planted(rt: &HostRuntime) -> anyhow::Result<()> {
+    let routes = compare_all(rt, FEW, Planted::InRoutes)?.disagreements;
+    let walks = compare_all(rt, FEW, Planted::InWalks)?.disagreements;
+    println!(rt; "planted in {FEW} searches:")?;
+    println!(rt; "    this program's own search one longer: {routes} disagreements")?;
+    println!(rt; "    the branch's search one shorter: {walks} disagreements")?;
+    ensure!(routes > 0 && walks > 0, "a disagreement is not noticed");
+    Ok(())
+}
+
+// How many searches had a least length, and how many disagreements there are.
+#[derive(Clone, Copy)]
+struct Compared {
+    arrived: u64,
+    disagreements: u64,
+}
+
+fn compare_all(rt: &HostRuntime, searches: u32, planted: Planted) -> anyhow::Result<Compared> {
     let mut scene = Scene {
         rt,
         work: Workspace::new(rt.alloc())?,
+        planted,
         arrived: 0,
         disagreements: 0,
     };
@@ -26,18 +70,17 @@ pub fn compare(rt: &HostRuntime, searches: u32) -> anyhow::Result<u64> {
         let drawn = draw.drawn(rt.alloc())?;
         scene.compare(&drawn)?;
     }
-    let arrived = scene.arrived;
-    let disagreements = scene.disagreements;
-    println!(rt;
-        "{searches} searches under drawn bans: {arrived} with a least length of at most {STEPS}, {disagreements} disagreements"
-    )?;
-    Ok(disagreements)
+    Ok(Compared {
+        arrived: scene.arrived,
+        disagreements: scene.disagreements,
+    })
 }
 
 #[derive(Drop)]
 struct Scene<'a> {
     rt: &'a HostRuntime,
     work: Workspace,
+    planted: Planted,
     arrived: u64,
     disagreements: u64,
 }
@@ -49,12 +92,24 @@ impl Scene<'_> {
         if walks.is_some() {
             self.arrived = self.arrived.saturating_add(1);
         }
-        let own = self.least_route(drawn)?;
-        if own != walks || !self.answers(drawn, &map, walks) {
+        let own = self.later_in(Planted::InRoutes, self.least_route(drawn)?);
+        let in_branch = self.later_in(Planted::InWalks, walks);
+        if own != walks || !self.answers(drawn, &map, in_branch) {
             self.disagreements = self.disagreements.saturating_add(1);
-            tell_disagreement(self.rt, drawn)?;
+            if self.planted == Planted::Nothing {
+                tell_disagreement(self.rt, drawn)?;
+            }
         }
         Ok(())
+    }
+
+    // The length, one more where that is planted.
+    fn later_in(&self, planted: Planted, length: Option<Tick>) -> Option<Tick> {
+        if self.planted == planted {
+            length.map(|n| Tick(n.0.saturating_add(1)))
+        } else {
+            length
+        }
     }
 
     fn least_route(&self, drawn: &Drawn) -> anyhow::Result<Option<Tick>> {
