@@ -1,10 +1,11 @@
 -- What holds of every plan file.
-use Rattle.std.proofs.Common.{◌≡◌, ℕ, ◌+◌, ◌≤◌, ◌↔◌, nat_le, ◌==◌, List, Ok, Err, Result, refl, ap, ◌∙◌, sym, subst, arith}
+use Rattle.std.proofs.Common.{◌≡◌, ℕ, ◌+◌, ◌≤◌, ◌↔◌, nat_le, ◌==◌, List, [], Ok, Err, Result, unwrap_or, refl, ap, ◌∙◌, sym, subst, arith}
 use Rattle.std.proofs.lemmas.Bool.{cases_Bool}
 use Rattle.std.proofs.lemmas.List.{nil_from_length}
 use Rattle.floor.specs.Floor.{Floor, Lawful}
 use Rattle.floor.proofs.Chains.{ok_same}
 use Rattle.cursor.specs.Words.{Bytes}
+use Rattle.motion.specs.Listed.{place_at}
 use Rattle.splits.specs.Rules.{Rules, LawfulRules}
 use Rattle.plan.specs.Layout.{Settles}
 use Rattle.plan.specs.SoundAndComplete.{PlanOf, PlanSoundAndComplete, ProvesBound, ProvesLeast, ShownBy, StandsByPlan}
@@ -76,11 +77,18 @@ module _ (f : Floor) (r : Rules) (floor : Lawful f) (rules : LawfulRules r) (byt
   proves_least s n settles least =
       let verdict : (standing (o s settles) (t s settles)).verdict ≡ Least n = ap (λ u. u.verdict) (stands s settles) ∙ least in
       let claim = least_claims (opened (o s settles)) _ _ _ _ n verdict in
+      let says = verdict ∙ ap Least (sym claim) in
+      let complete = (holds s settles).least_exactly.0 says in
+      let routes = (holds s settles).least_shown says in
+      let shows = shown_by_calls (o s settles) (record { floor = floor; rules = rules }) settles.calls settles.all_taken.taken in
       subst (ProvesLeast f r bytes) claim
       (record {
         plan = plan s settles;
-        complete = (holds s settles).least_exactly.0 (verdict ∙ ap Least (sym claim));
-        shown_least = (holds s settles).least_shown (verdict ∙ ap Least (sym claim));
+        set = routes.set;
+        shown = λ a lt. let w = complete.all_shown a lt in (w.0, (shows a w.0).0 w.1, routes.shown a lt ∙ ap (λ x. place_at (unwrap_or x [])) w.1);
+        free = routes.free;
+        sum = routes.sum;
+        no_rival = routes.no_rival;
       })
 
   proves_bound : (s : Standing) → Settles f r bytes s → s.branches ≡ 0 → ProvesBound f r bytes

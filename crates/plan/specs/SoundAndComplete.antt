@@ -1,21 +1,21 @@
 -- What holds of every plan file.
-use Rattle.std.specs.Prelude.{◌≡◌, ℕ, ◌+◌, ◌≤◌, ◌↔◌, List, length, Ok, Err, Contains}
+use Rattle.std.specs.Prelude.{◌≡◌, ℕ, ◌+◌, ◌<◌, ◌≤◌, ◌↔◌, List, length, Ok, Err, Contains}
 use Rattle.floor.specs.Floor.{Floor}
+use Rattle.motion.specs.Listed.{place_at}
+use Rattle.motion.specs.Routes.{ConflictFree, RouteSet, sum_of}
 use Rattle.motion.specs.declared.trip.Trip.{Trip}
 use Rattle.splits.specs.Rules.{Rules}
 use Rattle.plan.specs.FirstFault.{PlanFaultsExactly}
 use Rattle.plan.specs.Layout.{PlanReadExactly, PlanText}
 use Rattle.plan.specs.Reading.{opening, plan_reading}
 use Rattle.plan.specs.declared.fault.Fault.{Fault}
-use Rattle.tally.specs.CallAnswers.{after_all}
 use Rattle.tally.specs.Calls.{Call, show}
 use Rattle.tally.specs.Counts.{closings_in, splits_in}
-use Rattle.tally.specs.Laws.{Complete, NoRival, ShownLeast}
+use Rattle.tally.specs.Laws.{NoRival}
 use Rattle.tally.specs.Openings.{Openable}
 use Rattle.tally.specs.Plans.{CallsOf, HonestPlan}
 use Rattle.tally.specs.Standings.{number_in}
 use Rattle.tally.specs.StandsAs.{StandsAs}
-use Rattle.tally.specs.Tallies.{at_start}
 use Rattle.tally.specs.declared.standing.Standing.{Standing}
 use Rattle.tally.specs.declared.standing.Verdict.{Verdict}
 use Rattle.tally.specs.declared.standing.Verdict.TheVariants.{Least}
@@ -26,22 +26,25 @@ pub record PlanOf (r : Rules) (bytes : List ℕ) (n : ℕ) : Type 0 where
   pub calls : List Call
   pub text : PlanText r n trips calls bytes
 
+-- the plan shows the places as the route of the cart
+abbrev pub ShownBy : List Call → ℕ → List ℕ → Type 0
+ShownBy calls a ps = Contains calls (show a ps)
+
 -- the plan shows a route for every cart, these routes are a conflict-free set on the floor that sums to n, and no other
 -- set sums to less
 pub record ProvesLeast (f : Floor) (r : Rules) (bytes : List ℕ) (n : ℕ) : Type 0 where
   pub plan : PlanOf r bytes n
-  pub complete : let o = opening f r n plan.trips in Complete o (after_all o at_start plan.calls)
-  pub shown_least : let o = opening f r n plan.trips in ShownLeast o (after_all o at_start plan.calls)
+  pub set : RouteSet f plan.trips
+  pub shown : (a : ℕ) → a < length plan.trips → (ps : List ℕ) × ShownBy plan.calls a ps × (set.at a ≡ place_at ps)
+  pub free : ConflictFree set
+  pub sum : sum_of set ≡ n
+  pub no_rival : NoRival (opening f r n plan.trips)
 
 -- no conflict-free set of routes on the floor for the plan's carts sums to less than its claim
 pub record ProvesBound (f : Floor) (r : Rules) (bytes : List ℕ) : Type 0 where
   pub claim : ℕ
   pub plan : PlanOf r bytes claim
   pub no_rival : NoRival (opening f r claim plan.trips)
-
--- the plan shows the places as the route of the cart
-abbrev pub ShownBy : List Call → ℕ → List ℕ → Type 0
-ShownBy calls a ps = Contains calls (show a ps)
 
 -- The check of the plan's claim and trips is not barred, and the standing is what the plan's own calls come to: it has
 -- their splits and closings, the branches that these leave open, and the verdict whose conditions hold of the claim,
