@@ -99,7 +99,7 @@ Cases rings() {
         {plan().corridor(0, 1, 0, 1, 3, 2, 3).settle().file, "refused call 19 19"},
         {plan().corridor(0, 1, 0, 1, 5, 0, 0).settle().file, "refused call 19 19"},
         {plan().corridor(0, 1, 0, 1, 6, 0, 0).settle().file, "refused call 19 19"},
-        // Cart 2 is home by tick 0, so that nobody else goes by place 4.
+        // Cart 2 has arrived by tick 0, so that nobody else goes by place 4.
         {plan().target(2, 0).close().corridor(0, 1, 0, 1, 3, 6, 6).settle().file, "open 2"},
         {plan().target(2, 0).close().corridor(0, 1, 0, 1, 3, 7, 6).settle().file, "refused call 19 24"},
         {plan().target(2, 0).close().corridor(0, 1, 0, 1, 3, 6, 7).settle().file, "refused call 19 24"},

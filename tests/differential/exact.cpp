@@ -13,7 +13,7 @@ constexpr size_t most_states = 20000;
 // Where each cart is, and which have arrived for good. A step costs one for each cart that has not.
 struct State {
     std::vector<int> places;
-    std::vector<bool> home;
+    std::vector<bool> arrived;
 };
 
 class Joint {
@@ -27,7 +27,7 @@ public:
     std::optional<int> run() {
         State start;
         for (const Trip &trip : trips) start.places.push_back(trip.start);
-        start.home.assign(trips.size(), false);
+        start.arrived.assign(trips.size(), false);
         arrive(start, 0, 0);
         while (!queue.empty()) {
             const auto [cost, number] = queue.top();
@@ -36,7 +36,7 @@ public:
             seen[number] = true;
             const State state = state_of(number);
             int moving = 0;
-            for (bool home : state.home) moving += home ? 0 : 1;
+            for (bool arrived : state.arrived) moving += arrived ? 0 : 1;
             if (moving == 0) return cost;
             State next = state;
             step(state, next, 0, cost + moving);
@@ -48,14 +48,14 @@ private:
     size_t number_of(const State &state) const {
         size_t number = 0;
         for (size_t cart = 0; cart < trips.size(); ++cart)
-            number = (number * hall.next.size() + static_cast<size_t>(state.places[cart])) * 2 + (state.home[cart] ? 1 : 0);
+            number = (number * hall.next.size() + static_cast<size_t>(state.places[cart])) * 2 + (state.arrived[cart] ? 1 : 0);
         return number;
     }
 
     State state_of(size_t number) const {
         State state{std::vector<int>(trips.size()), std::vector<bool>(trips.size())};
         for (size_t cart = trips.size(); cart-- > 0;) {
-            state.home[cart] = number % 2 == 1;
+            state.arrived[cart] = number % 2 == 1;
             number /= 2;
             state.places[cart] = static_cast<int>(number % hall.next.size());
             number /= hall.next.size();
@@ -71,8 +71,8 @@ private:
             return;
         }
         arrive(state, cart + 1, cost);
-        if (state.home[cart] || state.places[cart] != trips[cart].target) return;
-        state.home[cart] = true;
+        if (state.arrived[cart] || state.places[cart] != trips[cart].target) return;
+        state.arrived[cart] = true;
         arrive(state, cart + 1, cost);
     }
 
@@ -91,7 +91,7 @@ private:
             return;
         }
         std::vector<int> choices{from.places[cart]};
-        if (!from.home[cart])
+        if (!from.arrived[cart])
             for (int q : hall.next[static_cast<size_t>(from.places[cart])]) choices.push_back(q);
         for (int q : choices) {
             to.places[cart] = q;

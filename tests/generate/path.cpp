@@ -76,8 +76,8 @@ public:
     }
 
     Found run(Route &route) {
-        const bool home = trip.start == trip.target && asked.least == 0;
-        if (!ended && home && asked.rests_from(trip.start, 0)) {
+        const bool stays = trip.start == trip.target && asked.least == 0;
+        if (!ended && stays && asked.rests_from(trip.start, 0)) {
             route = {trip.start};
             return Found::route;
         }

@@ -21,12 +21,12 @@ pub fn run(rt: &HostRuntime) -> anyhow::Result<()> {
     scene.tell_closures()?;
     scene.tell_stands()?;
     scene.tell_sums()?;
-    let mut home = Scene::new(
+    let mut back = Scene::new(
         rt,
         small_floor(ListMap::with_room(rt.alloc())?)?,
         [trip(4, 4), trip(0, 3)],
     )?;
-    home.tell_least("from 4 to 4, late 0", CART, 10, &[late(0)])?;
+    back.tell_least("from 4 to 4, late 0", CART, 10, &[late(0)])?;
     Ok(())
 }
 

@@ -6,10 +6,10 @@ const MAP: [u8; 23] = [
     b'P', 0, 5, b'W', 0, 0, 0, 1, b'W', 0, 1, 0, 2, b'W', 0, 2, 0, 3, b'W', 0, 2, 0, 4,
 ];
 
-// A claim of 6, and two carts: from 0 to 3, and from the bay at 4 to 2.
+// A claim of 6, and two carts: from 0 to 3, and from 4 to 2.
 const HEADING: [u8; 14] = [b'O', 0, 6, 2, b'C', 0, 0, 0, 3, b'C', 0, 4, 0, 2];
 
-// The second cart waits in its bay until the first has passed.
+// The second cart waits at 4 until the first has passed.
 const ROUTES: [u8; 22] = [
     b'R', 0, 3, 0, 0, 0, 1, 0, 2, 0, 3, b'R', 1, 3, 0, 4, 0, 4, 0, 4, 0, 2,
 ];

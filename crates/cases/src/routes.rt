@@ -7,10 +7,10 @@ use std::io;
 
 pub fn run(rt: &HostRuntime) -> anyhow::Result<()> {
     let small = small_floor(ListMap::with_room(rt.alloc())?)?;
-    let bay = trip(4, 2);
-    tell_routes(rt, &small, bay)?;
-    tell_long(rt, &small, bay, 255)?;
-    tell_long(rt, &small, bay, 256)?;
+    let trip = trip(4, 2);
+    tell_routes(rt, &small, trip)?;
+    tell_long(rt, &small, trip, 255)?;
+    tell_long(rt, &small, trip, 256)?;
     tell_conflicts(rt)?;
     tell_swap(rt, "a swap after 200 ticks", Place(0))?;
     tell_swap(rt, "both go on after 200 ticks", Place(2))
@@ -55,7 +55,7 @@ fn tell_route(
     }
 }
 
-// A route that waits in the bay and goes home with its last step.
+// A route that waits at its start and arrives with its last step.
 fn tell_long(rt: &HostRuntime, map: &ListMap, trip: Trip, steps: usize) -> anyhow::Result<()> {
     let places = waiting(rt.alloc(), trip.start, steps, trip.target)?;
     let what = format!(in rt.alloc(); "{steps} steps")?;

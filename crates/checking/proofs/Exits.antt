@@ -10,7 +10,7 @@ use Rattle.motion.specs.declared.route.RouteRefusal.{RouteRefusal}
 use Rattle.search.specs.Least.{cheaper}
 use Rattle.splits.specs.declared.refusal.SplitRefusal.{SplitRefusal}
 use Rattle.std.specs.Result.{result_map_both}
-use Rattle.tally.specs.CallAnswers.{answer_of, called, closing, current, operands, showing, splitting, tally_of, tested}
+use Rattle.tally.specs.CallAnswers.{answer_of, called, closing, current, operand_bytes, showing, splitting, tally_of, tested}
 use Rattle.tally.specs.Calls.{Call}
 use Rattle.tally.specs.Openings.{Opening, carts, opened}
 use Rattle.tally.specs.Refusals.{from_route, from_rule}
@@ -67,7 +67,7 @@ module _ (o : Opening) (t : Tally) (letter : ℕ) (bytes : List ℕ) where
   splitting_by first sides = result_map_both (λ x. x) from_rule sides >>= λ s. Ok (with_split t first.0 first.1 s.0 s.1)
 
   abbrev splitting_with : Branch × List Branch → Option ℕ → Result Tally Refusal
-  splitting_with first width = operands bytes width >>= λ ops. splitting_by first (o.rules.sides o.floor o.trips first.0.bans letter ops)
+  splitting_with first width = operand_bytes bytes width >>= λ ops. splitting_by first (o.rules.sides o.floor o.trips first.0.bans letter ops)
 
   abbrev splitting_of : Branch × List Branch → Result Tally Refusal
   splitting_of first =

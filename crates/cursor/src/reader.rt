@@ -32,9 +32,9 @@ impl<'a> Cursor<'a> {
     // The operands of the command that is due here, and what is left behind them.
     #[tactic(auto, using(crate::proofs::Commands::read_exactly, crate::proofs::Commands::missed_exactly))]
     pub fn operands<const N: usize>(self, due: u8) -> Result<([u8; N], Cursor<'a>), Missing>
-        ensures reads { operands due N (rest_of self.entry) ≡ result_map_both taken (λ m. m) result }
-        ensures exactly { ReadExactly due N (rest_of self.entry) }
-        ensures missed { MissedExactly due N (rest_of self.entry) }
+        ensures is_the_reading { operands due N (rest_of self.entry) ≡ result_map_both taken (λ m. m) result }
+        ensures read_exactly { ReadExactly due N (rest_of self.entry) }
+        ensures missed_exactly { MissedExactly due N (rest_of self.entry) }
     {
         match self.bytes {
             [letter, behind @ ..] if *letter == due => {

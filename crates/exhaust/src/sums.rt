@@ -19,7 +19,7 @@ const ROUNDS: usize = 1000;
 #[derive(Drop)]
 pub struct LeastSums {
     // for each arrangement the set of the carts that stand at their targets
-    pub homes: Vec<u8>,
+    pub at_targets: Vec<u8>,
     // for each set of carts under way, by its number, the least sum from each arrangement
     pub tables: Vec<Vec<u16>>,
     // whether some table was not complete after all rounds
@@ -33,9 +33,9 @@ impl LeastSums {
         steps: &[JointStep],
         targets: &[Place],
     ) -> Result<LeastSums, AllocError> {
-        let homes = homes(heap, stands, targets)?;
+        let at_targets = at_targets(heap, stands, targets)?;
         let mut sums = LeastSums {
-            homes,
+            at_targets,
             tables: Vec::new(heap),
             cut: false,
         };
@@ -49,8 +49,8 @@ impl LeastSums {
     // The table of no cart under way: nothing is to be paid where all carts are at their targets.
     fn push_arrived(&mut self, heap: Global, all: u8) -> Result<(), AllocError> {
         let mut table = Vec::new(heap);
-        for home in &self.homes {
-            table.push(if *home == all { 0 } else { NONE })?;
+        for carts in &self.at_targets {
+            table.push(if *carts == all { 0 } else { NONE })?;
         }
         self.tables.push(table)?;
         Ok(())
@@ -58,7 +58,7 @@ impl LeastSums {
 
     // The table of a set, from those of the smaller sets.
     fn push_table(&mut self, heap: Global, steps: &[JointStep], set: u8) -> Result<(), AllocError> {
-        let mut table = vec![in heap; NONE; self.homes.len()]?;
+        let mut table = vec![in heap; NONE; self.at_targets.len()]?;
         for bit in &BITS {
             self.arrive(&mut table, set, *bit);
         }
@@ -83,7 +83,7 @@ impl LeastSums {
 
     // Whether in the arrangement the cart is at its target.
     pub fn is_home(&self, i: usize, bit: u8) -> bool {
-        self.homes.get(i).is_some_and(|home| home & bit != 0)
+        self.at_targets.get(i).is_some_and(|carts| carts & bit != 0)
     }
 
     // The least sum from the arrangement where this set is under way.
@@ -99,12 +99,12 @@ fn sum_in(table: &[u16], i: usize) -> u16 {
     table.get(i).copied().unwrap_or(NONE)
 }
 
-fn homes(heap: Global, stands: &[Arrangement], targets: &[Place]) -> Result<Vec<u8>, AllocError> {
-    let mut homes = Vec::new(heap);
+fn at_targets(heap: Global, stands: &[Arrangement], targets: &[Place]) -> Result<Vec<u8>, AllocError> {
+    let mut at_targets = Vec::new(heap);
     for places in stands {
-        homes.push(carts_at(places, targets))?;
+        at_targets.push(carts_at(places, targets))?;
     }
-    Ok(homes)
+    Ok(at_targets)
 }
 
 // The set of carts that stand at their targets.

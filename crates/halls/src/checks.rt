@@ -9,7 +9,7 @@ use splits::own_rules;
 use std::io;
 use tally::{Refusal, Standing};
 
-// Cart 1 waits in its bay until cart 0 has passed, so that the routes sum to 6. The check of that sum, of one that is
+// Cart 1 waits at 4 until cart 0 has passed, so that the routes sum to 6. The check of that sum, of one that is
 // too small, and of one that is above the limit.
 pub fn tell_checks(rt: &HostRuntime, map: &AnyMap) -> anyhow::Result<()> {
     let calls = [

@@ -11,9 +11,9 @@ use maps::AnyMap;
 
 // A map in either layout, or the first fault. It lies in the memory, and is gone when another is read there.
 pub fn read_map<'m>(memory: &'m mut MapMemory, bytes: &[u8]) -> Result<AnyMap<'m>, Fault>
-    ensures reads { map_reading bytes.now ≡ result_map_both hall_of (λ f. f) result }
-    ensures exactly { MapReadExactly bytes.now }
-    ensures faults { MapFaultsExactly bytes.now }
+    ensures is_the_reading { map_reading bytes.now ≡ result_map_both hall_of (λ f. f) result }
+    ensures read_exactly { MapReadExactly bytes.now }
+    ensures refused_exactly { MapFaultsExactly bytes.now }
 {
     if is_list(bytes) {
         read_list(memory, bytes).map(AnyMap::List)

@@ -22,9 +22,9 @@ pub struct Heading<'a> {
 // A map in the grid layout, or the first fault.
 #[tactic(auto, using(crate::proofs::GridLayout::grid_faults_exactly))]
 pub fn read_grid<'m>(memory: &'m mut MapMemory, bytes: &[u8]) -> Result<&'m GridMap, Fault>
-    ensures reads { grid_reading bytes.now ≡ result_map_both (λ map. grid_of map.now) (λ f. f) result }
-    ensures exactly { GridReadExactly bytes.now }
-    ensures faults { GridFaultsExactly bytes.now }
+    ensures is_the_reading { grid_reading bytes.now ≡ result_map_both (λ map. grid_of map.now) (λ f. f) result }
+    ensures read_exactly { GridReadExactly bytes.now }
+    ensures refused_exactly { GridFaultsExactly bytes.now }
 {
     let heading = read_heading(bytes)?;
     read_cells(&mut memory.cells, heading)?;
@@ -40,7 +40,7 @@ pub fn read_grid<'m>(memory: &'m mut MapMemory, bytes: &[u8]) -> Result<&'m Grid
 
 #[tactic(auto, unfolding(crate::specs::GridFiles::grid_reading))]
 fn read_heading(bytes: &[u8]) -> Result<Heading<'_>, Fault>
-    ensures reads { grid_reading bytes.now ≡ behind_heading result }
+    ensures is_the_reading { grid_reading bytes.now ≡ behind_heading result }
     ensures gauge { IfOk result (λ h. (h.height ≤ 32) × (h.width ≤ 32)) }
 {
     let rest = after_text(Cursor { bytes, at: 0 }, b"type octile\nheight ")?;
@@ -59,7 +59,7 @@ fn read_heading(bytes: &[u8]) -> Result<Heading<'_>, Fault>
 fn read_cells(cells: &mut Vec<bool>, heading: Heading<'_>) -> Result<(), Fault>
     requires gauge { (heading.height ≤ 32) × (heading.width ≤ 32) }
     requires room { 1024 ≤ vec_capacity cells.old }
-    ensures reads { body heading.entry.height heading.entry.width heading.entry.width heading.entry.rows.at heading.entry.rows.bytes.now ≡ result_map_both (λ _. cells.new.items) (λ f. f) result }
+    ensures is_the_reading { body heading.entry.height heading.entry.width heading.entry.width heading.entry.rows.at heading.entry.rows.bytes.now ≡ result_map_both (λ _. cells.new.items) (λ f. f) result }
     ensures room { vec_capacity cells.new ≡ vec_capacity cells.old }
 {
     cells.clear();
@@ -76,7 +76,7 @@ fn read_cells(cells: &mut Vec<bool>, heading: Heading<'_>) -> Result<(), Fault>
 // Adds the cells of one row, for which there is room, and gives what is left behind its line.
 fn read_row<'a>(cells: &mut Vec<bool>, row: Cursor<'a>, width: usize) -> Result<Cursor<'a>, Fault>
     requires { vec_len cells.old + width ≤ vec_capacity cells.old }
-    ensures reads { ReadsRow width row.entry cells.old.items cells.new.items result }
+    ensures is_the_reading { ReadsRow width row.entry cells.old.items cells.new.items result }
     ensures few { vec_len cells.new ≤ vec_len cells.old + width }
     ensures room { vec_capacity cells.new ≡ vec_capacity cells.old }
 {

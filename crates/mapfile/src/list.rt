@@ -14,9 +14,9 @@ use maps::{Connection, ListMap};
 
 // A map in the list layout, or the first fault.
 pub fn read_list<'m>(memory: &'m mut MapMemory, bytes: &[u8]) -> Result<&'m ListMap, Fault>
-    ensures reads { list_reading bytes.now ≡ result_map_both (λ map. network_of map.now) (λ f. f) result }
-    ensures exactly { ListReadExactly bytes.now }
-    ensures faults { ListFaultsExactly bytes.now }
+    ensures is_the_reading { list_reading bytes.now ≡ result_map_both (λ map. network_of map.now) (λ f. f) result }
+    ensures read_exactly { ListReadExactly bytes.now }
+    ensures refused_exactly { ListFaultsExactly bytes.now }
 {
     fill_list(&mut memory.list, bytes)?;
     Ok(&memory.list)

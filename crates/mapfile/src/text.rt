@@ -25,7 +25,7 @@ pub fn after_text<'a>(rest: Cursor<'a>, text: &[u8]) -> Result<Cursor<'a>, Fault
 // A number of one to three digits that is 1 to 32, and what is left behind its line.
 pub fn size_line(rest: Cursor<'_>) -> Result<(usize, Cursor<'_>), Fault>
     ensures gauge { IfOk result (λ n. n.0 ≤ 32) }
-    ensures reads { size_line rest.entry.at rest.entry.bytes.now ≡ result_map_both sized (λ f. f) result }
+    ensures is_the_reading { size_line rest.entry.at rest.entry.bytes.now ≡ result_map_both sized (λ f. f) result }
 {
     let (size, behind) = number_line(rest)?;
     if !(1..=32).contains(&size) {

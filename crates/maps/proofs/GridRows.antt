@@ -5,7 +5,7 @@ use Rattle.std.proofs.lemmas.List.{length-map, map_push, get_or_append_left, get
 use Rattle.arrayvec.specs.ArrayVec.{ArrayVec}
 use Rattle.floor.specs.declared.Place.{Place}
 use Rattle.maps.specs.Grids.{Grid, around}
-use Rattle.maps.specs.Tables.{listed, row_of}
+use Rattle.maps.specs.Tables.{numbers_in, row_of}
 use Rattle.maps.specs.TablesLemmas.{row_past}
 
 module _ (g : Grid) where
@@ -18,12 +18,12 @@ module _ (g : Grid) where
   FirstRows n rows = (p : ℕ) → p < n → row_of rows p ≡ around g p
 
   module _ (rows : List (ArrayVec Place)) (n : ℕ) (first : FirstRows n rows) (long : length rows ≡ n) where
-    pub rows_more : (r : ArrayVec Place) → listed r ≡ around g n → FirstRows (n + 1) (rows ++ r ∷ [])
+    pub rows_more : (r : ArrayVec Place) → numbers_in r ≡ around g n → FirstRows (n + 1) (rows ++ r ∷ [])
     rows_more r is p h =
-        let as_long = length-map rows listed in
-        ap (λ xs. get_or xs p []) (map_push listed rows r)
-        ∙ ⊎_elim (λ lt. get_or_append_left (map listed rows) (listed r ∷ []) [] p (omega arith) ∙ first p lt)
-        (λ ge. let last : p ≡ n = omega arith in get_or_push (map listed rows) (listed r) [] p (omega arith) ∙ is ∙ ap (around g) (sym last)) (cases_lt p n)
+        let as_long = length-map rows numbers_in in
+        ap (λ xs. get_or xs p []) (map_push numbers_in rows r)
+        ∙ ⊎_elim (λ lt. get_or_append_left (map numbers_in rows) (numbers_in r ∷ []) [] p (omega arith) ∙ first p lt)
+        (λ ge. let last : p ≡ n = omega arith in get_or_push (map numbers_in rows) (numbers_in r) [] p (omega arith) ∙ is ∙ ap (around g) (sym last)) (cases_lt p n)
 
     pub rows_all : length g.free ≡ n → (p : ℕ) → row_of rows p ≡ around g p
     rows_all all p =

@@ -5,9 +5,9 @@ use Rattle.floor.specs.Numbers.{numbers}
 use Rattle.floor.specs.declared.Place.{Place}
 
 -- the places of a row, as their numbers
-abbrev pub listed : ArrayVec Place → List ℕ
-listed r = numbers r.items
+abbrev pub numbers_in : ArrayVec Place → List ℕ
+numbers_in r = numbers r.items
 
 -- the row of place p, empty past the table's end
 abbrev pub row_of : List (ArrayVec Place) → ℕ → List ℕ
-row_of rows p = slice_index_or (map listed rows) p []
+row_of rows p = slice_index_or (map numbers_in rows) p []

@@ -5,36 +5,36 @@ use Rattle.std.proofs.lemmas.List.{length-map, length-set, length-replicate, get
 use Rattle.std.proofs.lemmas.Bool.{cases_eq, cases_lt}
 use Rattle.maps.specs.Networks.{partners}
 use Rattle.floor.specs.Numbers.{numbers}
-use Rattle.maps.specs.Tables.{listed, row_of}
+use Rattle.maps.specs.Tables.{numbers_in, row_of}
 use Rattle.maps.specs.declared.connection.Connection.{Connection}
 use Rattle.arrayvec.specs.ArrayVec.{ArrayVec, array_vec_len}
 use Rattle.floor.specs.declared.Place.{Place}
 use Rattle.maps.specs.PartnersLemmas.{leads_from_links, passes_from_apart, partners_push, partners_past}
 
-pub length_listed : (r : ArrayVec Place) → length (listed r) ≡ array_vec_len r
-length_listed r = length-map r.items (λ p. p.0)
+pub length_numbers_in : (r : ArrayVec Place) → length (numbers_in r) ≡ array_vec_len r
+length_numbers_in r = length-map r.items (λ p. p.0)
 
-pub row_push : (r more : ArrayVec Place) (q : Place) → more.items ≡ r.items ++ q ∷ [] → listed more ≡ listed r ++ q.0 ∷ []
+pub row_push : (r more : ArrayVec Place) (q : Place) → more.items ≡ r.items ++ q ∷ [] → numbers_in more ≡ numbers_in r ++ q.0 ∷ []
 row_push r more q e = ap numbers e ∙ map_push (λ p. p.0) r.items q
 
-pub row_read : (rows : List (ArrayVec Place)) (p : ℕ) (r : ArrayVec Place) → p < length rows → r ≡ slice_index_or rows p r → listed r ≡ row_of rows p
-row_read rows p r h e = ap listed e ∙ sym (get_or-map listed rows p r [] h)
+pub row_read : (rows : List (ArrayVec Place)) (p : ℕ) (r : ArrayVec Place) → p < length rows → r ≡ slice_index_or rows p r → numbers_in r ≡ row_of rows p
+row_read rows p r h e = ap numbers_in e ∙ sym (get_or-map numbers_in rows p r [] h)
 
 pub row_past : (rows : List (ArrayVec Place)) (p : ℕ) → length rows ≤ p → row_of rows p ≡ []
-row_past rows p h = let long = length-map rows listed in get_or_past (map listed rows) p [] (omega arith)
+row_past rows p h = let long = length-map rows numbers_in in get_or_past (map numbers_in rows) p [] (omega arith)
 
-pub row_of_same : (n : ℕ) (r : ArrayVec Place) (p : ℕ) → listed r ≡ [] → row_of (replicate n r) p ≡ []
+pub row_of_same : (n : ℕ) (r : ArrayVec Place) (p : ℕ) → numbers_in r ≡ [] → row_of (replicate n r) p ≡ []
 row_of_same n r p e =
     let long = length-replicate n r in
-    ⊎_elim (λ lt. get_or-map listed (replicate n r) p r [] (omega arith) ∙ ap listed (get_or-replicate n p r r lt) ∙ e) (λ ge. row_past (replicate n r) p (omega arith))
+    ⊎_elim (λ lt. get_or-map numbers_in (replicate n r) p r [] (omega arith) ∙ ap numbers_in (get_or-replicate n p r r lt) ∙ e) (λ ge. row_past (replicate n r) p (omega arith))
     (cases_lt p n)
 
-pub row_of_set : (rows : List (ArrayVec Place)) (i : ℕ) (r : ArrayVec Place) → i < length rows → row_of (slice_set rows i r) i ≡ listed r
+pub row_of_set : (rows : List (ArrayVec Place)) (i : ℕ) (r : ArrayVec Place) → i < length rows → row_of (slice_set rows i r) i ≡ numbers_in r
 row_of_set rows i r h =
-    let long = length-map rows listed in ap (λ xs. get_or xs i []) (map-set listed rows i r) ∙ get_or-set_same (map listed rows) i (listed r) [] (omega arith)
+    let long = length-map rows numbers_in in ap (λ xs. get_or xs i []) (map-set numbers_in rows i r) ∙ get_or-set_same (map numbers_in rows) i (numbers_in r) [] (omega arith)
 
 pub row_of_set_other : (rows : List (ArrayVec Place)) (i p : ℕ) (r : ArrayVec Place) → (p ≢ i) → row_of (slice_set rows i r) p ≡ row_of rows p
-row_of_set_other rows i p r ne = ap (λ xs. get_or xs p []) (map-set listed rows i r) ∙ get_or-set_other (map listed rows) i p (listed r) [] ne
+row_of_set_other rows i p r ne = ap (λ xs. get_or xs p []) (map-set numbers_in rows i r) ∙ get_or-set_other (map numbers_in rows) i p (numbers_in r) [] ne
 
 -- the rows of both ends of a new connection each have one place more
 module _ (rows : List (ArrayVec Place)) (cs : List Connection) (c : Connection) (near far : ArrayVec Place) where
@@ -44,7 +44,7 @@ module _ (rows : List (ArrayVec Place)) (cs : List Connection) (c : Connection) 
   abbrev other : ℕ
   other = c.second.0
 
-  pub tied_push : ((p : ℕ) → row_of rows p ≡ partners p cs) → one < length rows → other < length rows → (one ≢ other) → listed near ≡ partners one cs ++ other ∷ [] → listed far ≡ partners other cs ++ one ∷ [] →
+  pub tied_push : ((p : ℕ) → row_of rows p ≡ partners p cs) → one < length rows → other < length rows → (one ≢ other) → numbers_in near ≡ partners one cs ++ other ∷ [] → numbers_in far ≡ partners other cs ++ one ∷ [] →
       (p : ℕ) → row_of (slice_set (slice_set rows one near) other far) p ≡ partners p (cs ++ c ∷ [])
   tied_push tied on on' apart near_is far_is p =
       ⊎_elim (λ e. subst Tied (sym e) at_other) (λ off'. ⊎_elim (λ e. subst Tied (sym e) at_one) (λ off. past off off') (cases_eq p one)) (cases_eq p other)

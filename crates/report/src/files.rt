@@ -13,7 +13,7 @@ use tally::Standing;
 // first fault. The memory serves for other files afterwards, whatever came of these.
 #[tactic(auto, unfolding(crate::specs::Files::files_reading))]
 pub fn check_files(memory: &mut Memory, map: &[u8], plan: &[u8]) -> Result<Standing, Fault>
-    ensures reads { result ≡ files_reading map.now plan.now }
+    ensures is_the_reading { result ≡ files_reading map.now plan.now }
     ensures sound_and_complete { FilesSoundAndComplete map.now plan.now }
 {
     let map = read_map(&mut memory.map, map)?;

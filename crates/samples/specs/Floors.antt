@@ -13,7 +13,7 @@ between p q = record { first = record { 0 = p }; second = record { 0 = q } }
 abbrev pub connections_of : List (ℕ × ℕ) → List Connection
 connections_of pairs = map (λ p. between p.0 p.1) pairs
 
--- five places: a way of four, and a bay at its third place
+-- five places: four in a row, and one beside the third
 abbrev pub small_floor : Network
 small_floor = record { places = 5; connections = between 0 1 ∷ between 1 2 ∷ between 2 3 ∷ between 2 4 ∷ [] }
 

@@ -6,7 +6,7 @@ ghost use Rattle.samples.specs.Floors.{between, connections_of, joining_all, lin
 use floor::Place;
 use maps::{Connection, ListMap, MapRefusal};
 
-// Five places, in the memory of a map: a way of four, and a bay at its third place.
+// Five places, in the memory of a map: four in a row, and one beside the third.
 #[tactic(auto, unfolding(maps::specs::Networks::founding, maps::specs::Networks::joining))]
 pub fn small_floor(mut map: ListMap) -> Result<ListMap, MapRefusal>
     ensures { Ok small_floor ≡ result_map_both network_of (λ e. e) result }
@@ -18,8 +18,8 @@ pub fn small_floor(mut map: ListMap) -> Result<ListMap, MapRefusal>
 // So many places in a line, with more connections, in the memory of a map.
 #[tactic(auto, using(crate::proofs::Links::links_first), unfolding(maps::specs::Networks::founding, maps::specs::Networks::joining))]
 pub fn line(mut map: ListMap, places: u16, more: &[(u16, u16)]) -> Result<ListMap, MapRefusal>
-    ensures made { lining places (connections_of more.now) ≡ result_map_both network_of (λ e. e) result }
-    ensures six { lining 6 [] ≡ Ok line }
+    ensures joined_in_turn { lining places (connections_of more.now) ≡ result_map_both network_of (λ e. e) result }
+    ensures six_in_a_row { lining 6 [] ≡ Ok line }
 {
     map.found(places)?;
     // by number: there is no list of places

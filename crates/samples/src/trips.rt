@@ -13,7 +13,7 @@ pub fn trip(start: u16, target: u16) -> Trip
     }
 }
 
-// Two carts of the small floor that meet at place 2: one on its way from 0 to 3, the other from the bay at 4.
+// Two carts of the small floor that meet at place 2: one on its way from 0 to 3, the other from 4.
 pub fn small_trips() -> [Trip; 2]
     ensures { result ≡ trip 0 3 ∷ trip 4 2 ∷ [] }
 {

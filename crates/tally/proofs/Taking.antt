@@ -12,7 +12,7 @@ use Rattle.search.specs.Least.{cheaper}
 use Rattle.std.specs.Result.{result_map_both}
 use Rattle.std.proofs.lemmas.Bool.{lt-leb, not-false, not_from_false, not_from_true, not-true, or_from}
 use Rattle.std.proofs.lemmas.Bool.Decides.{Decides-or}
-use Rattle.tally.specs.CallAnswers.{called, closing, current, operands, showing, splitting, tested}
+use Rattle.tally.specs.CallAnswers.{called, closing, current, operand_bytes, showing, splitting, tested}
 use Rattle.tally.specs.CallRefusals.{CloseFails, Fails, RefusedBy, ShowFails, SplitFails, by_call, by_opening, by_rule, cheaper_set, full, has_route, in_conflict as conflicts, no_route, none_open, off_floor, operands_cut, unknown_cart, unknown_letter}
 use Rattle.tally.specs.Calls.{Call, Closable, Gives, Routeless, Showable, Takes, by_close, by_show, by_split, close, show, split}
 use Rattle.tally.specs.Openings.{Opening, Openable, RouteOf, LawfulOpening, carts, opened}
@@ -66,7 +66,7 @@ module _ (o : Opening) (sound : LawfulOpening o) (t : Tally) where
     sides_answer b rest ops = result_map_both (λ x. x) from_rule (o.rules.sides o.floor o.trips b.bans letter ops) >>= λ sides. Ok (with_split t b rest sides.0 sides.1)
 
     operands_answer : Branch → List Branch → Result Tally Refusal
-    operands_answer b rest = operands bytes (o.rules.width letter bytes) >>= sides_answer b rest
+    operands_answer b rest = operand_bytes bytes (o.rules.width letter bytes) >>= sides_answer b rest
 
     module _ (b : Branch) (rest : List Branch) (is : t.branches ≡ b ∷ rest) where
       past_current : splitting o t letter bytes ≡ (refuse (leb 64 b.depth || leb 1000000 t.splits) Full >> (refuse (not (o.rules.knows letter)) Letter >> operands_answer b rest))
@@ -82,7 +82,7 @@ module _ (o : Opening) (sound : LawfulOpening o) (t : Tally) where
 
         past_operands : (n : ℕ) → o.rules.knows letter ≡ true → o.rules.width letter bytes ≡ Some n → splitting o t letter bytes ≡ sides_answer b rest (take n bytes)
         unfolding operands_answer
-        past_operands n known whole = past_letter known ∙ bind_at (operands bytes (o.rules.width letter bytes)) (sides_answer b rest) (take n bytes) (ap (operands bytes) whole)
+        past_operands n known whole = past_letter known ∙ bind_at (operand_bytes bytes (o.rules.width letter bytes)) (sides_answer b rest) (take n bytes) (ap (operand_bytes bytes) whole)
 
     split_answers : (b : Branch) (rest : List Branch) (left right : Ban) → t.branches ≡ b ∷ rest → b.depth < 64 → t.splits < 1000000
         → Gives o b.bans letter bytes left right → splitting o t letter bytes ≡ Ok (with_split t b rest left right)
@@ -98,7 +98,7 @@ module _ (o : Opening) (sound : LawfulOpening o) (t : Tally) where
         past_current b rest is ∙ refused (leb 64 b.depth || leb 1000000 t.splits) Full _ ((Decides-or _ _ (decides_leb 64 b.depth) (decides_leb 1000000 t.splits)).1 past)
     split_refuses e (unknown_letter {b = b} {rest = rest} is deep many unknown) = past_room b rest is deep many ∙ refused (not (o.rules.knows letter)) Letter _ (not_from_false _ unknown)
     split_refuses e (operands_cut {b = b} {rest = rest} is deep many known cut) =
-        past_letter b rest is deep many known ∙ bind_stops (operands bytes (o.rules.width letter bytes)) (sides_answer b rest) _ (ap (operands bytes) cut)
+        past_letter b rest is deep many known ∙ bind_stops (operand_bytes bytes (o.rules.width letter bytes)) (sides_answer b rest) _ (ap (operand_bytes bytes) cut)
     split_refuses e (by_rule {b = b} {rest = rest} {n = n} is deep many known whole gives) =
         past_operands b rest is deep many n known whole
         ∙ bind_stops (result_map_both (λ x. x) from_rule (o.rules.sides o.floor o.trips b.bans letter (take n bytes))) _ _ (ap (result_map_both (λ x. x) from_rule) gives)

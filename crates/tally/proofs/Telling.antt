@@ -16,7 +16,7 @@ use Rattle.search.specs.Least.{cheaper}
 use Rattle.splits.specs.declared.refusal.SplitRefusal.{SplitRefusal}
 use Rattle.std.specs.Result.{result_map_both}
 use Rattle.std.proofs.lemmas.Bool.Decides.{Decides-eqb, Decides-like, Decides-or}
-use Rattle.tally.specs.CallAnswers.{closing, current, operands, showing, splitting, tested}
+use Rattle.tally.specs.CallAnswers.{closing, current, operand_bytes, showing, splitting, tested}
 use Rattle.tally.specs.CallRefusals.{CloseFails, Fails, ShowFails, SplitFails, by_rule, cheaper_set, full, has_route, in_conflict as conflicts, no_route, none_open, off_floor, operands_cut, unknown_cart, unknown_letter}
 use Rattle.tally.specs.Calls.{Call, FreeOf, Routeless, Takes, by_close, by_show, by_split, close, show, split}
 use Rattle.tally.specs.Openings.{Opening, LawfulOpening, carts}
@@ -85,13 +85,13 @@ module _ (o : Opening) (t : Tally) (letter : ℕ) (bytes : List ℕ) where
     sides_tell n whole (Err e) gives = by_rule is deep many known whole gives
 
     width_tells : (w : Option ℕ) → o.rules.width letter bytes ≡ w
-        → MatchResult (operands bytes w >>= λ ops. (result_map_both (λ y. y) from_rule (o.rules.sides o.floor o.trips b.bans letter ops) >>= λ sides. Ok (with_split t b rest sides.0 sides.1))) TakesSplit FailsSplit
+        → MatchResult (operand_bytes bytes w >>= λ ops. (result_map_both (λ y. y) from_rule (o.rules.sides o.floor o.trips b.bans letter ops) >>= λ sides. Ok (with_split t b rest sides.0 sides.1))) TakesSplit FailsSplit
     width_tells None cut = operands_cut is deep many known cut
     width_tells (Some n) whole = sides_tell n whole _ refl
 
   split_tells_of : (bs : List Branch) → t.branches ≡ bs
       → MatchResult (current bs >>= λ first. (refuse (leb 64 first.0.depth || leb 1000000 t.splits) Full >> (refuse (not (o.rules.knows letter)) Letter
-      >> (operands bytes (o.rules.width letter bytes) >>= λ ops. (result_map_both (λ y. y) from_rule (o.rules.sides o.floor o.trips first.0.bans letter ops) >>= λ sides. Ok (with_split t first.0 first.1 sides.0 sides.1)))))) TakesSplit FailsSplit
+      >> (operand_bytes bytes (o.rules.width letter bytes) >>= λ ops. (result_map_both (λ y. y) from_rule (o.rules.sides o.floor o.trips first.0.bans letter ops) >>= λ sides. Ok (with_split t first.0 first.1 sides.0 sides.1)))))) TakesSplit FailsSplit
   split_tells_of [] is = none_open is
   split_tells_of (b ∷ rest) is =
       refuse_tells TakesSplit FailsSplit _ Full _ (Decides-or _ _ (decides_leb 64 b.depth) (decides_leb 1000000 t.splits))

@@ -31,9 +31,9 @@ current_bans o t = in_force (opened o) t.branches
     in_force (Ok x) (b ∷ rest) = Some b.bans
 
 -- the bytes that the width names
-abbrev pub operands : List ℕ → Option ℕ → Result (List ℕ) Refusal
-operands bytes None = Err CutShort
-operands bytes (Some n) = Ok (take n bytes)
+abbrev pub operand_bytes : List ℕ → Option ℕ → Result (List ℕ) Refusal
+operand_bytes bytes None = Err CutShort
+operand_bytes bytes (Some n) = Ok (take n bytes)
 
 unfoldable pub showing : Opening → Tally → ℕ → List ℕ → Result Tally Refusal
 showing o t a ps = do
@@ -48,7 +48,7 @@ splitting o t letter bytes = do
   first ← current t.branches
   refuse (nat_le 64 first.0.depth || nat_le 1000000 t.splits) Full
   refuse (not (o.rules.knows letter)) Letter
-  ops ← operands bytes (o.rules.width letter bytes)
+  ops ← operand_bytes bytes (o.rules.width letter bytes)
   sides ← result_map_both (λ x. x) from_rule (o.rules.sides o.floor o.trips first.0.bans letter ops)
   Ok (with_split t first.0 first.1 sides.0 sides.1)
 

@@ -29,12 +29,12 @@ verdict_of (Err e) branches missing sum claim = Barred e
 verdict_of (Ok x) branches missing sum claim =
     cond (nat_le 1 branches) (Open branches) (cond (nat_le 1 missing) (Unshown missing) (cond (sum == claim) (Least claim) (OtherSum sum)))
 
-abbrev pub word_of : Verdict → List ℕ
-word_of (Barred e) = codes "barred "
-word_of (Open branches) = codes "open "
-word_of (Unshown carts) = codes "unshown "
-word_of (OtherSum sum) = codes "othersum "
-word_of (Least claim) = codes "least "
+abbrev pub verdict_word : Verdict → List ℕ
+verdict_word (Barred e) = codes "barred "
+verdict_word (Open branches) = codes "open "
+verdict_word (Unshown carts) = codes "unshown "
+verdict_word (OtherSum sum) = codes "othersum "
+verdict_word (Least claim) = codes "least "
 
 abbrev pub number_in : Verdict → ℕ
 number_in (Barred e) = number_of e
@@ -45,7 +45,7 @@ number_in (Least claim) = claim
 
 -- the word and the number of a verdict
 abbrev pub text_of : Verdict → List ℕ
-text_of v = word_of v ++ decimal (number_in v)
+text_of v = verdict_word v ++ decimal (number_in v)
 
 abbrev pub standing : Opening → Tally → Standing
 standing o t = record {

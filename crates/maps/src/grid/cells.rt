@@ -2,7 +2,7 @@ ghost use Rattle.std.specs.Prelude.{◌≡◌, ℕ, ◌*◌, ◌<◌, ◌≤◌,
 ghost use Rattle.arrayvec.specs.ArrayVec.{array_vec_len};
 ghost use Rattle.maps.specs.Changes.{Changed};
 ghost use Rattle.maps.specs.Grids.{around, free_at, gridding, one_cell};
-ghost use Rattle.maps.specs.Tables.{listed, row_of};
+ghost use Rattle.maps.specs.Tables.{numbers_in, row_of};
 
 use crate::refusal::MapRefusal;
 use crate::rows::MOST_PLACES;
@@ -83,7 +83,7 @@ impl Cells {
     // The neighbours of `p`: above, left, right, below.
     #[tactic(auto, using(crate::proofs::Sides::kept_beside, crate::proofs::Sides::none_more), unfolding(crate::specs::Grids::around))]
     fn around(&self, p: usize) -> ArrayVec<Place, 4>
-        ensures { listed result ≡ around (grid_in self.now) p }
+        ensures { numbers_in result ≡ around (grid_in self.now) p }
     {
         let mut row = ArrayVec::new();
         if !self.free_at(p) {
@@ -105,7 +105,7 @@ impl Cells {
     // Adds `q` to the row, if it is free.
     fn add_free(&self, row: &mut ArrayVec<Place, 4>, q: usize)
         requires { array_vec_len row.old < 4 }
-        ensures { listed row.new ≡ listed row.old ++ filter (free_at (grid_in self.now)) (q ∷ []) }
+        ensures { numbers_in row.new ≡ numbers_in row.old ++ filter (free_at (grid_in self.now)) (q ∷ []) }
     {
         if self.free_at(q) {
             row.push(Place(q as u16));

@@ -28,7 +28,7 @@ impl GridMap {
     #[tactic(auto, using(crate::proofs::Gridding::gridding_tells))]
     pub fn lay(&mut self, height: usize, width: usize, free: &[bool]) -> Result<(), MapRefusal>
         ensures change { Changed grid_of (gridding height width free.now) self.old self.new result }
-        ensures tells { GriddingTells }
+        ensures each_answer_exactly { GriddingTells }
     {
         self.cells.lay(height, width, free)?;
         self.cells.fill_rows(&mut self.rows);

@@ -23,7 +23,7 @@ impl ListMap {
     #[tactic(auto, using(crate::proofs::Founding::founding_tells), unfolding(crate::specs::Networks::founding))]
     pub fn found(&mut self, places: u16) -> Result<(), MapRefusal>
         ensures change { Changed network_of (founding places) self.old self.new result }
-        ensures tells { FoundingTells }
+        ensures each_answer_exactly { FoundingTells }
     {
         if !(1..=1024).contains(&places) {
             return Err(MapRefusal::Count);

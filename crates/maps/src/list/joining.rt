@@ -13,7 +13,7 @@ impl ListMap {
     #[tactic(auto, using(crate::proofs::Joining::joining_tells, crate::specs::ListMapsLemmas::ends_on_floor, crate::specs::ListMapsLemmas::few_more, crate::specs::ListMapsLemmas::near_room, crate::specs::ListMapsLemmas::far_room))]
     pub fn join(&mut self, c: Connection) -> Result<(), MapRefusal>
         ensures change { Changed network_of (joining (network_of self.old) c) self.old self.new result }
-        ensures tells { JoiningTells }
+        ensures each_answer_exactly { JoiningTells }
     {
         self.test_connection(c)?;
         self.rows[usize::from(c.first)].push(c.second);

@@ -14,9 +14,9 @@ returns-then-is_list c =
     let is = sym c.if-is_list.ensures in
     let tells : MatchResult c.read_list.result (λ m. c.map.result ≡ Ok (ListKind m)) (λ e. c.map.result ≡ Err e) = grind arith in
     record {
-      reads = kind_answers bytes listed (list_reading bytes) (read_as_list bytes is) (λ m. network_of m.now) ListKind (λ m. refl) c.read_list.result c.read_list.ensures.reads c.map.result tells;
-      exactly = list_exactly bytes is c.read_list.ensures.exactly;
-      faults = list_faults bytes is c.read_list.ensures.faults;
+      is_the_reading = kind_answers bytes listed (list_reading bytes) (read_as_list bytes is) (λ m. network_of m.now) ListKind (λ m. refl) c.read_list.result c.read_list.ensures.is_the_reading c.map.result tells;
+      read_exactly = list_exactly bytes is c.read_list.ensures.read_exactly;
+      refused_exactly = list_faults bytes is c.read_list.ensures.refused_exactly;
     }
 
 pub returns-else-is_list : goal.returns-else-is_list
@@ -25,7 +25,7 @@ returns-else-is_list c =
     let is = sym c.if-is_list.ensures in
     let tells : MatchResult c.read_grid.result (λ m. c.map-else-is_list.result ≡ Ok (GridKind m)) (λ e. c.map-else-is_list.result ≡ Err e) = grind arith in
     record {
-      reads = kind_answers bytes gridded (grid_reading bytes) (read_as_grid bytes is) (λ m. grid_of m.now) GridKind (λ m. refl) c.read_grid.result c.read_grid.ensures.reads c.map-else-is_list.result tells;
-      exactly = grid_exactly bytes is c.read_grid.ensures.exactly;
-      faults = grid_faults bytes is c.read_grid.ensures.faults;
+      is_the_reading = kind_answers bytes gridded (grid_reading bytes) (read_as_grid bytes is) (λ m. grid_of m.now) GridKind (λ m. refl) c.read_grid.result c.read_grid.ensures.is_the_reading c.map-else-is_list.result tells;
+      read_exactly = grid_exactly bytes is c.read_grid.ensures.read_exactly;
+      refused_exactly = grid_faults bytes is c.read_grid.ensures.refused_exactly;
     }

@@ -5,9 +5,9 @@ use Rattle.mapfile.proofs.FaultAnswers.{passed_on}
 use Rattle.mapfile.proofs.RowSteps.{row_read, row_stops, rows_end}
 use Rattle.mapfile.proofs.grid.read_cells.Goals as goal
 
-pub returns-in_err-rest-clause-reads : goal.returns-in_err-rest-clause-reads
-returns-in_err-rest-clause-reads c =
-    let stops = row_stops _ c.args.heading.height c.loop.counter c.args.heading.width c.loop.rest (vec_items c.loop.cells) c.loop.invariant.0 (omega arith) (vec_items c.read_row.new.cells) c.in_err-rest.field-0.0 c.in_err-rest.ensures.reads in
+pub returns-in_err-rest-clause-is_the_reading : goal.returns-in_err-rest-clause-is_the_reading
+returns-in_err-rest-clause-is_the_reading c =
+    let stops = row_stops _ c.args.heading.height c.loop.counter c.args.heading.width c.loop.rest (vec_items c.loop.cells) c.loop.invariant.0 (omega arith) (vec_items c.read_row.new.cells) c.in_err-rest.field-0.0 c.in_err-rest.ensures.is_the_reading in
     passed_on _ _ c.from_residual.result c.in_err-rest.field-0.0 stops c.from_residual.ensures.1
 
 pub loop-preserved : goal.loop-preserved
@@ -18,5 +18,5 @@ loop-preserved c =
       omega (arith, more.room, c.loop.invariant.2),
     )
 
-pub returns-clause-reads : goal.returns-clause-reads
-returns-clause-reads c = rows_end _ c.args.heading.height c.loop.counter c.args.heading.width c.loop.rest (vec_items c.loop.cells) c.loop.invariant.0 (omega arith) (grind (arith, nat_tests))
+pub returns-clause-is_the_reading : goal.returns-clause-is_the_reading
+returns-clause-is_the_reading c = rows_end _ c.args.heading.height c.loop.counter c.args.heading.width c.loop.rest (vec_items c.loop.cells) c.loop.invariant.0 (omega arith) (grind (arith, nat_tests))

@@ -7,26 +7,26 @@ use Rattle.mapfile.proofs.grid.read_grid.Goals as goal
 
 pub returns-in_err-heading : goal.returns-in_err-heading
 returns-in_err-heading c = record {
-  reads = passed_on (λ map. grid_of map.now) _ c.from_residual.result c.in_err-heading.field-0.0 c.in_err-heading.ensures.reads c.from_residual.ensures.1;
-  exactly = grid_read_exactly c.args.bytes.now;
-  faults = grid_faults_exactly c.args.bytes.now;
+  is_the_reading = passed_on (λ map. grid_of map.now) _ c.from_residual.result c.in_err-heading.field-0.0 c.in_err-heading.ensures.is_the_reading c.from_residual.ensures.1;
+  read_exactly = grid_read_exactly c.args.bytes.now;
+  refused_exactly = grid_faults_exactly c.args.bytes.now;
 }
 
 pub returns-in_err-read_cells : goal.returns-in_err-read_cells
 returns-in_err-read_cells c = record {
-  reads = passed_on (λ map. grid_of map.now) _ c.from_residual-in_err-read_cells.result c.in_err-read_cells.field-0.0 (not_filled c.args.bytes.now c.in_ok-heading.heading c.in_ok-heading.ensures.reads c.in_err-read_cells.field-0.0 c.in_err-read_cells.ensures.reads) c.from_residual-in_err-read_cells.ensures.1;
-  exactly = grid_read_exactly c.args.bytes.now;
-  faults = grid_faults_exactly c.args.bytes.now;
+  is_the_reading = passed_on (λ map. grid_of map.now) _ c.from_residual-in_err-read_cells.result c.in_err-read_cells.field-0.0 (not_filled c.args.bytes.now c.in_ok-heading.heading c.in_ok-heading.ensures.is_the_reading c.in_err-read_cells.field-0.0 c.in_err-read_cells.ensures.is_the_reading) c.from_residual-in_err-read_cells.ensures.1;
+  read_exactly = grid_read_exactly c.args.bytes.now;
+  refused_exactly = grid_faults_exactly c.args.bytes.now;
 }
 
 pub unreachable-requires : goal.unreachable-requires
 unreachable-requires c =
     let at_lay = c.in-Err.ensures in
-    never_refused c.args.bytes.now c.in_ok-heading.heading c.in_ok-heading.ensures.reads (vec_items c.read_cells.new.cells) c.in_ok-read_cells.ensures.reads c.in-Err.field-0 (rw c.deref.ensures.value at at_lay.change.0)
+    never_refused c.args.bytes.now c.in_ok-heading.heading c.in_ok-heading.ensures.is_the_reading (vec_items c.read_cells.new.cells) c.in_ok-read_cells.ensures.is_the_reading c.in-Err.field-0 (rw c.deref.ensures.value at at_lay.change.0)
 
 pub returns : goal.returns
 returns c = record {
-  reads = read_as_made c.args.bytes.now c.in_ok-heading.heading c.in_ok-heading.ensures.reads (vec_items c.read_cells.new.cells) c.in_ok-read_cells.ensures.reads (grid_of c.lay.new.self) (rw c.deref.ensures.value at c.in-Ok.ensures.change);
-  exactly = grid_read_exactly c.args.bytes.now;
-  faults = grid_faults_exactly c.args.bytes.now;
+  is_the_reading = read_as_made c.args.bytes.now c.in_ok-heading.heading c.in_ok-heading.ensures.is_the_reading (vec_items c.read_cells.new.cells) c.in_ok-read_cells.ensures.is_the_reading (grid_of c.lay.new.self) (rw c.deref.ensures.value at c.in-Ok.ensures.change);
+  read_exactly = grid_read_exactly c.args.bytes.now;
+  refused_exactly = grid_faults_exactly c.args.bytes.now;
 }

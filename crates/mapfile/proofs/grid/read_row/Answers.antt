@@ -3,8 +3,8 @@ use Rattle.mapfile.proofs.RowSteps.{sign_read, sign_faulty, row_ends, row_breaks
 use Rattle.std.proofs.lemmas.Result.{err_from_is_err_and}
 use Rattle.mapfile.proofs.grid.read_row.Goals as goal
 
-pub returns-in_err-is_free-clause-reads : goal.returns-in_err-is_free-clause-reads
-returns-in_err-is_free-clause-reads c =
+pub returns-in_err-is_free-clause-is_the_reading : goal.returns-in_err-is_free-clause-is_the_reading
+returns-in_err-is_free-clause-is_the_reading c =
     let inside : c.loop-i.i < c.min.result = omega (arith, length-take {A = ℕ}) in
     let reads = c.in_err-is_free.ensures in
     let exit = err_from_is_err_and c.from_residual.result c.from_residual.ensures.1 in
