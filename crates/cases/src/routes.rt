@@ -7,10 +7,10 @@ use std::io;
 
 pub fn run(rt: &HostRuntime) -> anyhow::Result<()> {
     let small = small_floor(ListMap::with_room(rt.alloc())?)?;
-    let trip = trip(4, 2);
-    tell_routes(rt, &small, trip)?;
-    tell_long(rt, &small, trip, 255)?;
-    tell_long(rt, &small, trip, 256)?;
+    let way = trip(4, 2);
+    tell_routes(rt, &small, way)?;
+    tell_long(rt, &small, way, 255)?;
+    tell_long(rt, &small, way, 256)?;
     tell_conflicts(rt)?;
     tell_swap(rt, "a swap after 200 ticks", Place(0))?;
     tell_swap(rt, "both go on after 200 ticks", Place(2))
