@@ -28,8 +28,7 @@ fn fill_list(map: &mut ListMap, bytes: &[u8]) -> Result<(), Fault>
     ensures { list_reading bytes.now ≡ result_map_both (λ _. network_of map.new) (λ f. f) result }
 {
     let (places, mut rest) = read_count(bytes)?;
-    map.found(places)
-        .map_err(|refusal| Fault::new(refusal, 0))?;
+    map.found(places).map_err(|refusal| Fault::new(refusal, 0))?;
     while !rest.bytes.is_empty() {
         rest = connect(map, rest)?;
     }
