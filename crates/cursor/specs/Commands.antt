@@ -21,6 +21,11 @@ operands due n left = from left.at left.bytes
         else Err (missing CutShort (at + 1 + length bytes)))
         else Err (missing Letter at)
 
+-- a missing command is told as a fault of what the file is
+abbrev pub told : {A Fault : Type 0} → (Missing → Fault) → Result A Missing → Result A Fault
+told fault (Ok x) = Ok x
+told fault (Err m) = Err (fault m)
+
 -- operands that were read, and what is left behind them
 abbrev pub taken : List ℕ × Cursor → List ℕ × Rest
 taken p = (p.0, rest_of p.1)

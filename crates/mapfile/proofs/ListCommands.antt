@@ -7,7 +7,7 @@ use Rattle.std.proofs.lemmas.List.Elements.{All-drop}
 use Rattle.std.proofs.lemmas.Result.{MatchResult-weaker}
 use Rattle.cursor.proofs.Commands.{bytes_behind, operands_missed, operands_read, operands_tell}
 use Rattle.cursor.proofs.Words.{word_back, words_back}
-use Rattle.cursor.specs.Commands.{missing, operands}
+use Rattle.cursor.specs.Commands.{missing, operands, told}
 use Rattle.cursor.specs.Exactly.{Misses, Stands}
 use Rattle.cursor.specs.Rests.{Rest, rest}
 use Rattle.cursor.specs.Words.{Bytes, two_bytes}
@@ -20,8 +20,8 @@ use Rattle.maps.specs.NetworksLemmas.{proper_front, proper_prefix}
 use Rattle.maps.proofs.Joining.{joining_tells}
 use Rattle.maps.specs.PassingLemmas.{passed_from_ok}
 use Rattle.maps.specs.declared.refusal.MapRefusal.{MapRefusal}
-use Rattle.mapfile.specs.Faults.{fault}
-use Rattle.mapfile.specs.ListFiles.{connection, connected, connecting, blame, told}
+use Rattle.mapfile.specs.Faults.{fault, missing_fault}
+use Rattle.mapfile.specs.ListFiles.{connection, connected, connecting, blame}
 use Rattle.mapfile.specs.ListLayout.{connection_text, NoContinuing, no_connection, connection_refused}
 use Rattle.mapfile.specs.declared.fault.Fault.{Fault}
 
@@ -48,7 +48,7 @@ abbrev with_rest : ℕ → Rest → Result Network MapRefusal → Result (Networ
 with_rest at left x = blame at x >>= λ j. Ok (j, left)
 
 abbrev joined : Network → ℕ → Result (List ℕ × Rest) Missing → Result (Network × Rest) Fault
-joined n at read = told (named read) >>= λ c. with_rest at c.1 (joining n c.0)
+joined n at read = told missing_fault (named read) >>= λ c. with_rest at c.1 (joining n c.0)
 
 -- a connection's text stands there, and leads from n to a network that is a list map
 pub record Joins (n : Network) (at : ℕ) (bytes : List ℕ) (m : Network) (left : Rest) : Type 0 where

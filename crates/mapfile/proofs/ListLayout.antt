@@ -4,7 +4,7 @@ use Rattle.std.proofs.lemmas.List.{append-nil}
 use Rattle.std.proofs.lemmas.Result.{MatchResult-at_ok, MatchResult-at_err, MatchResult-weaker}
 use Rattle.cursor.proofs.Commands.{bytes_behind, operands_missed, operands_read, operands_tell}
 use Rattle.cursor.proofs.Words.{pair_back, word_back}
-use Rattle.cursor.specs.Commands.{missing, operands}
+use Rattle.cursor.specs.Commands.{missing, operands, told}
 use Rattle.cursor.specs.Exactly.{Misses, Stands}
 use Rattle.cursor.specs.Rests.{Rest, rest}
 use Rattle.cursor.specs.Words.{Bytes, two_bytes, word}
@@ -14,15 +14,15 @@ use Rattle.floor.proofs.Chains.{bind_at}
 use Rattle.maps.specs.Networks.{Network, Proper, bare, founding}
 use Rattle.maps.proofs.Founding.{founding_ok, founding_gives, founding_tells}
 use Rattle.maps.specs.declared.refusal.MapRefusal.{MapRefusal}
-use Rattle.mapfile.specs.Faults.{fault}
-use Rattle.mapfile.specs.ListFiles.{blame, connecting, list_reading, told}
+use Rattle.mapfile.specs.Faults.{fault, missing_fault}
+use Rattle.mapfile.specs.ListFiles.{blame, connecting, list_reading}
 use Rattle.mapfile.specs.ListLayout.{count_text, list_text, ListReadExactly, ListFault, at_beginning, at_command, NoBeginning, NoContinuing, no_count, count_refused, ListFaultsExactly}
 use Rattle.mapfile.specs.declared.fault.Fault.{Fault}
 use Rattle.mapfile.proofs.ListCommands.{extended, texts, connecting_halts, connecting_on, connecting_tells}
 
 -- what comes of the operands of `P`
 abbrev numbered : Result (List ℕ × Rest) Missing → Result (ℕ × Rest) Fault
-numbered read = told read >>= λ r. Ok (word r.0 0, r.1)
+numbered read = told missing_fault read >>= λ r. Ok (word r.0 0, r.1)
 
 abbrev behind_count : Result (List ℕ × Rest) Missing → Result Network Fault
 behind_count read = do

@@ -1,6 +1,6 @@
 -- Reading a list file, front to back, to the network or the first fault.
 use Rattle.std.specs.Prelude.{ℕ, zero, suc, ◌+◌, List, [], ◌∷◌, Ok, Err, Result}
-use Rattle.cursor.specs.Commands.{operands}
+use Rattle.cursor.specs.Commands.{operands, told}
 use Rattle.cursor.specs.Rests.{Rest, rest}
 use Rattle.cursor.specs.Words.{word}
 use Rattle.cursor.specs.declared.missing.Missing.{Missing}
@@ -11,11 +11,6 @@ use Rattle.maps.specs.declared.refusal.MapRefusal.{MapRefusal}
 use Rattle.mapfile.specs.Faults.{fault, missing_fault}
 use Rattle.mapfile.specs.declared.fault.Fault.{Fault}
 
--- a missing command becomes a fault of the file
-abbrev pub told : {A : Type 0} → Result A Missing → Result A Fault
-told (Ok x) = Ok x
-told (Err m) = Err (missing_fault m)
-
 -- a refusal becomes a fault at the offset
 abbrev pub blame : {A : Type 0} → ℕ → Result A MapRefusal → Result A Fault
 blame at (Ok x) = Ok x
@@ -24,7 +19,7 @@ blame at (Err e) = Err (fault e at)
 -- the number of places in the `P` command that the file begins with, and what is left behind it
 abbrev pub counted : List ℕ → Result (ℕ × Rest) Fault
 counted bytes = do
-  read ← told (operands 80 2 (rest 0 bytes))
+  read ← told missing_fault (operands 80 2 (rest 0 bytes))
   Ok (word read.0 0, read.1)
 
 -- the connection that the operands of a `W` name
@@ -40,7 +35,7 @@ connection_at left = do
 -- the network with that connection, and what is left behind its command
 abbrev pub connected : Network → Rest → Result (Network × Rest) Fault
 connected n left = do
-  read ← told (connection_at left)
+  read ← told missing_fault (connection_at left)
   joined ← blame left.at (joining n read.0)
   Ok (joined, read.1)
 

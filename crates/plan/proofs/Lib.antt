@@ -1,10 +1,8 @@
 pub mod Found
 pub mod Passing
 pub mod Pairs
-pub mod HeadingFinds
 pub mod CallsFind
 pub mod Trips
-pub mod HeadingWritten
 pub mod HeadingTells
 pub mod CallsWritten
 pub mod PlanFinds

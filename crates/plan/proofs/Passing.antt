@@ -21,6 +21,11 @@ module _ (r : Rules) (law : LawfulRules r) (at : ℕ) where
   found_fits : (letter : ℕ) (bytes : List ℕ) (call : Call) (n : ℕ) → found r at letter bytes ≡ Ok (Some (call, n)) → n ≤ length bytes
   found_fits letter bytes call n e = fits r law at letter bytes call n (subst (Finds r at letter bytes) e (finds r at letter bytes))
 
+  -- the call's bytes are there
+  pub found_within : (bytes : List ℕ) (call : Call) (n : ℕ) → found_at r at bytes ≡ Ok (Some (call, n)) → 1 + n ≤ length bytes
+  found_within [] call n e = grind arith
+  found_within (letter ∷ bytes) call n e = let fits = found_fits letter bytes call n e in omega arith
+
   pub read_on : (bytes : List ℕ) (call : Call) (n : ℕ) → found_at r at bytes ≡ Ok (Some (call, n))
       → commands r 0 at bytes ≡ Ok (at, call) ∷ commands r 0 (at + (1 + n)) (drop (1 + n) bytes)
   unfolding commands

@@ -1,5 +1,5 @@
 -- What a plan file comes to: it is read exactly when it is laid out as one and taken, and its fault is the first.
-use Rattle.std.proofs.Common.{◌≡◌, ℕ, ◌+◌, ◌-◌, ◌*◌, ◌<◌, List, [], ◌∷◌, ◌++◌, length, Ok, Err, Result, refl, ap, ◌∙◌, sym, subst, length-append, arith}
+use Rattle.std.proofs.Common.{◌≡◌, ℕ, ◌+◌, ◌-◌, ◌*◌, ◌<◌, List, [], ◌∷◌, ◌++◌, length, Ok, Err, Result, MatchResult, refl, ap, ◌∙◌, sym, subst, length-append, arith}
 use Rattle.std.specs.List.{flat_map}
 use Rattle.std.proofs.Math.Seq.{drop-append_seam}
 use Rattle.std.proofs.lemmas.List.Elements.{All-drop}
@@ -19,9 +19,8 @@ use Rattle.plan.specs.Reading.{blame, made, made_if_open, opening, plan_reading}
 use Rattle.plan.specs.declared.fault.Fault.{Fault}
 use Rattle.plan.specs.declared.fault.PlanRefusal.{PlanRefusal}
 use Rattle.plan.proofs.CallsFind.{MadeFinds, all_made, stopped, made_find}
-use Rattle.plan.proofs.HeadingFinds.{HeadingFinds, heading_find, no_heading, whole_heading}
 use Rattle.plan.proofs.CallsWritten.{calls_lead, calls_written, left_within, stopped_made}
-use Rattle.plan.proofs.HeadingWritten.{carts_refused, heading_refuses, heading_written}
+use Rattle.plan.proofs.HeadingTells.{Faulty, IsHeading, carts_refused, heading_refuses, heading_tells, heading_written}
 use Rattle.tally.specs.CallAnswers.{after_all}
 use Rattle.tally.specs.Openings.{BarredBy, Opening, Opens, LawfulOpening, by_carts, by_claim, by_places, by_sharing, opened}
 use Rattle.tally.specs.Standings.{standing}
@@ -83,16 +82,17 @@ module _ (f : Floor) (floor : Lawful f) (r : Rules) (law : LawfulRules r) where
     t ← made_if_open o at_start (commands r 0 h.behind.at h.behind.bytes)
     Ok (standing o t)
 
-  heading_found : (all : List ℕ) (x : Result Heading Fault) → HeadingFinds all x → Bytes all → PlanFinds f r all (after_heading x)
+  heading_found : (all : List ℕ) (x : Result Heading Fault) → MatchResult x (IsHeading all) (Faulty all) → Bytes all → PlanFinds f r all (after_heading x)
   unfolding after_heading opening_find
-  heading_found all x (whole_heading {bytes = behind} {offset = offset} claim trips few place) low =
-      let front = heading_text claim trips in
-      opening_find claim trips offset behind (subst Bytes (drop-append_seam front behind) (All-drop (λ b. b < 256) (length front) (front ++ behind) low)) place _ refl
-  heading_found all x (no_heading wrong place) low = has_fault (in_heading wrong) place
+  heading_found all (Ok h) is low =
+      let front = heading_text h.claim h.trips in
+      let behind = subst Bytes (drop-append_seam front h.behind.bytes) (All-drop (λ b. b < 256) (length front) (front ++ h.behind.bytes) (subst Bytes is.1 low)) in
+      subst (λ bs. PlanFinds f r bs (after_heading (Ok h))) (sym is.1) (opening_find h.claim h.trips h.behind.at h.behind.bytes behind is.2 _ refl)
+  heading_found all (Err g) wrong low = has_fault (in_heading wrong) refl
 
   plan_find : (bytes : List ℕ) → Bytes bytes → PlanFinds f r bytes (plan_reading f r bytes)
   unfolding plan_reading after_heading
-  plan_find bytes low = heading_found bytes (heading bytes) (heading_find bytes low) low
+  plan_find bytes low = heading_found bytes (heading bytes) (heading_tells bytes low) low
 
   refuses : (bytes : List ℕ) (e : PlanRefusal) (k : ℕ) → PlanFault f r bytes e k → plan_reading f r bytes ≡ Err (record { refusal = e; offset = k })
   unfolding plan_reading after_heading

@@ -3,23 +3,17 @@ use Rattle.std.specs.Prelude.{ℕ, List, [], ◌∷◌, Some, None, Err, Option,
 use Rattle.std.specs.Option.{option_map}
 use Rattle.std.specs.Result.{result_map_both}
 use Rattle.arrayvec.specs.ArrayVec.{ArrayVec}
+use Rattle.cursor.specs.Rests.{Rest, rest_of}
+use Rattle.cursor.specs.declared.reader.Cursor.{Cursor}
 use Rattle.motion.specs.declared.trip.Trip.{Trip}
 use Rattle.splits.specs.Rules.{Rules}
 use Rattle.plan.specs.Commands.{Found, Item, call_of, commands, found}
 use Rattle.plan.specs.Faults.{file_fault}
-use Rattle.plan.specs.Headings.{Rest, Heading as Meant}
+use Rattle.plan.specs.Headings.{Heading as Meant}
 use Rattle.plan.specs.declared.command.Command.{Command}
-use Rattle.plan.specs.declared.cursor.Cursor.{Cursor}
 use Rattle.plan.specs.declared.fault.Fault.{Fault}
 use Rattle.plan.specs.declared.heading.Heading.{Heading}
 use Rattle.plan.specs.declared.fault.FileRefusal.TheVariants.{CutShort}
-
-abbrev pub rest_of : Cursor → Rest
-rest_of c = record { at = c.at; bytes = c.bytes.now }
-
--- operands that were read, and what is left behind them
-abbrev pub taken : List ℕ × Cursor → List ℕ × Rest
-taken p = (p.0, rest_of p.1)
 
 -- trips that were read, and what is left behind them
 abbrev pub trips_taken : ArrayVec Trip × Cursor → List Trip × Rest

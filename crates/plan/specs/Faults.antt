@@ -1,5 +1,8 @@
 -- A fault of a plan file, its numbers and words, and how it is printed.
 use Rattle.std.specs.Prelude.{ℕ, List, ◌++◌, codes, decimal}
+use Rattle.cursor.specs.declared.missing.Lack.{Lack}
+use Rattle.cursor.specs.declared.missing.Lack.TheVariants.{Letter as Another, CutShort as Short}
+use Rattle.cursor.specs.declared.missing.Missing.{Missing}
 use Rattle.plan.specs.declared.fault.Fault.{Fault}
 use Rattle.plan.specs.declared.fault.FileRefusal.{FileRefusal}
 use Rattle.plan.specs.declared.fault.FileRefusal.TheVariants.{Letter, CutShort, Trailing}
@@ -20,6 +23,14 @@ file_word Trailing = codes "trailing"
 
 abbrev pub file_fault : FileRefusal → ℕ → Fault
 file_fault e at = record { refusal = File e; offset = at }
+
+-- why a command is missing, as a refusal of the file
+abbrev pub refusal_of : Lack → FileRefusal
+refusal_of Another = Letter
+refusal_of Short = CutShort
+
+abbrev pub missing_fault : Missing → Fault
+missing_fault m = file_fault (refusal_of m.lack) m.offset
 
 abbrev pub call_fault : Refusal → ℕ → Fault
 call_fault e at = record { refusal = Call e; offset = at }

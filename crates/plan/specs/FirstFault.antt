@@ -1,10 +1,13 @@
 -- What the first fault of a plan file is.
 use Rattle.std.specs.Prelude.{◌≡◌, ℕ, ◌+◌, ◌-◌, ◌*◌, ◌<◌, true, false, ◌↔◌, List, [], ◌∷◌, ◌++◌, length, None, Err, ◌≢◌}
 use Rattle.std.specs.List.{flat_map}
+use Rattle.cursor.specs.Exactly.{NoCommand}
+use Rattle.cursor.specs.declared.missing.Lack.{Lack}
 use Rattle.floor.specs.Floor.{Floor}
 use Rattle.motion.specs.Trips.{FewCarts}
 use Rattle.motion.specs.declared.trip.Trip.{Trip}
 use Rattle.splits.specs.Rules.{Rules}
+use Rattle.plan.specs.Faults.{refusal_of}
 use Rattle.plan.specs.Headings.{heading}
 use Rattle.plan.specs.Layout.{AllTaken, CallsText, heading_text, opening_text, trip_text}
 use Rattle.plan.specs.Reading.{opening, plan_reading}
@@ -23,18 +26,12 @@ use Rattle.tally.specs.declared.refusal.Refusal.TheVariants.{Carts}
 
 -- ---- in the heading
 
--- the command that is due, with so many operand bytes, does not stand at the front of the bytes: why, and where in them
-pub data NoCommand (due n : ℕ) : List ℕ → FileRefusal → ℕ → Type 0 where
-  file_ends : NoCommand due n [] CutShort 0
-  other_letter : {letter : ℕ} {bytes : List ℕ} → (letter ≢ due) → NoCommand due n (letter ∷ bytes) Letter 0
-  operands_cut : {bytes : List ℕ} → length bytes < n → NoCommand due n (due ∷ bytes) CutShort (length (due ∷ bytes))
-
 -- all before the offset is as a heading is laid down, and what stands there is not
 pub data HeadingFault (bytes : List ℕ) : PlanRefusal → ℕ → Type 0 where
-  no_opening : {e : FileRefusal} {k : ℕ} → NoCommand 79 3 bytes e k → HeadingFault bytes (File e) k
+  no_opening : {lack : Lack} {k : ℕ} → NoCommand 79 3 bytes lack k → HeadingFault bytes (File (refusal_of lack)) k
   not_carts : (claim carts : ℕ) (rest : List ℕ) → bytes ≡ opening_text claim carts ++ rest → (FewCarts carts → ⊥) → HeadingFault bytes (ByCheck Carts) 0
-  no_trip : {e : FileRefusal} {k : ℕ} (claim carts : ℕ) (front : List Trip) (rest : List ℕ) → FewCarts carts → length front < carts
-      → bytes ≡ (opening_text claim carts ++ flat_map trip_text front) ++ rest → NoCommand 67 4 rest e k → HeadingFault bytes (File e) (4 + 5 * length front + k)
+  no_trip : {lack : Lack} {k : ℕ} (claim carts : ℕ) (front : List Trip) (rest : List ℕ) → FewCarts carts → length front < carts
+      → bytes ≡ (opening_text claim carts ++ flat_map trip_text front) ++ rest → NoCommand 67 4 rest lack k → HeadingFault bytes (File (refusal_of lack)) (4 + 5 * length front + k)
 
 -- a heading is refused for a fault exactly when that is its first one
 abbrev pub HeadingFaultsExactly : List ℕ → Type 0

@@ -25,7 +25,7 @@ pub fn check_plan<M: FloorMap, R: SplitRule>(
     rules: &R,
     bytes: &[u8],
 ) -> Result<Standing, Fault>
-    ensures reads { result ≡ plan_reading (M.FloorMap.floor map.now) (R.SplitRule.rules rules.now) bytes.now }
+    ensures is_the_reading { result ≡ plan_reading (M.FloorMap.floor map.now) (R.SplitRule.rules rules.now) bytes.now }
     ensures sound_and_complete { PlanSoundAndComplete (M.FloorMap.floor map.now) (R.SplitRule.rules rules.now) bytes.now }
 {
     let heading = read_heading(bytes)?;
@@ -50,7 +50,7 @@ fn make_calls<M: FloorMap, R: SplitRule>(
     work: &mut Workspace,
     commands: Commands<'_, R>,
 ) -> Result<(), Fault>
-    ensures made { made_if_open (opening_of M.FloorMap.floor R.SplitRule.rules check.old.terms) (tally_in check.old.book) commands.entry ≡ result_map_both (λ _. tally_in check.new.book) (λ f. f) result }
+    ensures all_made { made_if_open (opening_of M.FloorMap.floor R.SplitRule.rules check.old.terms) (tally_in check.old.book) commands.entry ≡ result_map_both (λ _. tally_in check.new.book) (λ f. f) result }
     ensures still { check.new.terms ≡ check.old.terms }
 {
     if let Verdict::Barred(refusal) = check.standing().verdict {

@@ -1,6 +1,7 @@
 use crate::command::Command;
-use crate::cursor::Cursor;
 use crate::fault::Fault;
+use crate::letters::command_at;
+use cursor::Cursor;
 use splits::SplitRule;
 use std::marker::Model;
 
@@ -34,7 +35,7 @@ impl<'a, R: SplitRule> Iterator for Commands<'a, R> {
 
     fn next(&mut self) -> Option<Result<(usize, Command<'a>), Fault>> {
         let here = self.rest.take()?;
-        match here.command(self.rules) {
+        match command_at(here, self.rules) {
             Ok(Some((command, width))) => {
                 self.rest = Some(here.behind(1 + width));
                 Some(Ok((here.at, command)))

@@ -1,6 +1,7 @@
 ghost use Rattle.std.specs.Prelude.{◌≡◌, Some};
-ghost use Rattle.plan.specs.Faults.{call_fault, fault_text, file_fault, file_number, file_word};
+ghost use Rattle.plan.specs.Faults.{call_fault, fault_text, file_fault, file_number, file_word, missing_fault};
 
+use cursor::{Lack, Missing};
 use std::error::Error;
 use std::fmt;
 use std::fmt::{Display, Formatter};
@@ -71,6 +72,18 @@ impl Fault {
             refusal: PlanRefusal::Call(refusal),
             offset,
         }
+    }
+}
+
+impl From<Missing> for Fault {
+    ghost from_gives = { λ m f. f ≡ missing_fault m };
+
+    fn from(missing: Missing) -> Fault {
+        let refusal = match missing.lack {
+            Lack::Letter => FileRefusal::Letter,
+            Lack::CutShort => FileRefusal::CutShort,
+        };
+        Fault::of_file(refusal, missing.offset)
     }
 }
 

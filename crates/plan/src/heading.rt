@@ -1,15 +1,16 @@
 ghost use Rattle.std.specs.Prelude.{◌≡◌, ◌≤◌};
+ghost use Rattle.cursor.specs.Rests.{rest_of};
 ghost use Rattle.plan.specs.Commands.{commands};
-ghost use Rattle.plan.specs.Cursors.{heading_of, rest_of, trips_taken};
+ghost use Rattle.plan.specs.Cursors.{heading_of, trips_taken};
 ghost use Rattle.plan.specs.FirstFault.{HeadingFaultsExactly};
 ghost use Rattle.plan.specs.Headings.{heading, trips_at};
 ghost use Rattle.plan.specs.Layout.{HeadingReadExactly};
 ghost use Rattle.std.specs.Result.{result_map_both};
 
 use crate::commands::Commands;
-use crate::cursor::Cursor;
 use crate::fault::Fault;
 use arrayvec::ArrayVec;
+use cursor::{Cursor, Missing};
 use floor::Place;
 use motion::Trip;
 use splits::SplitRule;
@@ -38,9 +39,9 @@ impl<'a> Heading<'a> {
 // The heading of a plan.
 #[tactic(auto, unfolding(crate::specs::Headings::heading))]
 pub fn read_heading(bytes: &[u8]) -> Result<Heading<'_>, Fault>
-    ensures reads { heading bytes.now ≡ result_map_both heading_of (λ f. f) result }
-    ensures exactly { HeadingReadExactly bytes.now }
-    ensures faults { HeadingFaultsExactly bytes.now }
+    ensures is_the_reading { heading bytes.now ≡ result_map_both heading_of (λ f. f) result }
+    ensures read_exactly { HeadingReadExactly bytes.now }
+    ensures refused_exactly { HeadingFaultsExactly bytes.now }
 {
     let ([high, low, carts], behind) = Cursor { bytes, at: 0 }.operands::<3>(b'O')?;
     if !(1..=16).contains(&carts) {
@@ -56,9 +57,9 @@ pub fn read_heading(bytes: &[u8]) -> Result<Heading<'_>, Fault>
 }
 
 // The trips of so many carts, and what is left behind them.
-fn read_trips(carts: u8, mut rest: Cursor<'_>) -> Result<(ArrayVec<Trip, 16>, Cursor<'_>), Fault>
+fn read_trips(carts: u8, mut rest: Cursor<'_>) -> Result<(ArrayVec<Trip, 16>, Cursor<'_>), Missing>
     requires { carts ≤ 16 }
-    ensures { trips_at carts (rest_of rest.entry) ≡ result_map_both trips_taken (λ f. f) result }
+    ensures { trips_at carts (rest_of rest.entry) ≡ result_map_both trips_taken (λ m. m) result }
 {
     let mut trips = ArrayVec::new();
     for _ in 0..carts {

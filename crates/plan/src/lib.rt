@@ -3,9 +3,9 @@
 mod check;
 mod command;
 mod commands;
-mod cursor;
 mod fault;
 mod heading;
+mod letters;
 mod places;
 
 pub use check::check_plan;

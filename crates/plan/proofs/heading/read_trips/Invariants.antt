@@ -1,5 +1,5 @@
 use Rattle.std.proofs.Common.{◌≡◌, ◌-◌, length}
-use Rattle.plan.specs.Cursors.{rest_of}
+use Rattle.cursor.specs.Rests.{rest_of}
 use Rattle.plan.specs.Headings.{after_trips, trips_at}
 use Rattle.plan.proofs.heading.read_trips.Given as goal
 
