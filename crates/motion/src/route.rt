@@ -5,7 +5,7 @@ ghost use Rattle.motion.specs.Listed.{clash, goes_on, in_conflict, may_step, is_
 ghost use Rattle.motion.specs.Refusals.{number_of, word_of};
 
 use crate::trip::Trip;
-use floor::{FloorMap, Place, is_joined};
+use floor::{FloorMap, Place, Tick, is_joined};
 use std::error::Error;
 use std::fmt;
 use std::fmt::{Display, Formatter};
@@ -71,17 +71,18 @@ fn is_route<M: FloorMap>(map: &M, trip: Trip, places: &[Place]) -> bool
     }
     let last = places.len() - 1;
     let ends = places[0] == trip.start && places[last] == trip.target;
-    ends && (0..last).all(|t| goes_on(map, places, t))
+    ends && (0..last).all(|t| goes_on(map, places, Tick(t as u16)))
 }
 
 // Whether the step after the tick is one that the floor has, and no wait if it is the last.
-fn goes_on<M: FloorMap>(map: &M, places: &[Place], tick: usize) -> bool
-    requires { tick + 1 < length places.now }
-    ensures { result ≡ goes_on (M.FloorMap.floor map.now) (numbers places.now) tick }
+fn goes_on<M: FloorMap>(map: &M, places: &[Place], tick: Tick) -> bool
+    requires { tick.0 + 1 < length places.now }
+    ensures { result ≡ goes_on (M.FloorMap.floor map.now) (numbers places.now) tick.0 }
 {
-    let from = places[tick];
-    let to = places[tick + 1];
-    may_step(map, from, to) && (tick + 2 < places.len() || from != to)
+    let t = usize::from(tick.0);
+    let from = places[t];
+    let to = places[t + 1];
+    may_step(map, from, to) && (t + 2 < places.len() || from != to)
 }
 
 // Whether a step stays or goes to a neighbour.

@@ -1,7 +1,8 @@
 -- The first number that passes a test. Speaks of no floor.
 use Rattle.std.proofs.Common.{◌≡◌, ℕ, zero, suc, ◌<◌, Bool, true, false, cond, Some, None, Option, sym, refl, ap, ap₂, arith, MatchOption}
 use native.Mathlib.Decide.{le_ind}
-use Rattle.search.specs.Sums.{or_else, first_below}
+use Rattle.std.specs.Option.{option_or}
+use Rattle.search.specs.Sums.{first_below}
 
 -- what holds below n and at n
 pub below_suc : (P : ℕ → Type 0) (n : ℕ) → ((k : ℕ) → k < n → P k) → P n → (k : ℕ) → k < suc n → P k
@@ -15,7 +16,7 @@ module _ (P : ℕ → Bool) where
   IsFirst n m = (m < n) × (P m ≡ true) × NonePasses m
 
   first_more : (n : ℕ) (o : Option ℕ) (b : Bool) → P n ≡ b → MatchOption o (NonePasses n) (IsFirst n)
-      → MatchOption (or_else o (cond b (Some n) None)) (NonePasses (suc n)) (IsFirst (suc n))
+      → MatchOption (option_or o (cond b (Some n) None)) (NonePasses (suc n)) (IsFirst (suc n))
   first_more n None true e h = (omega arith, e, h)
   first_more n None false e h = below_suc (λ k. P k ≡ false) n h e
   first_more n (Some m) b e h = let lt = h.0 in (omega arith, h.1, h.2)
@@ -26,4 +27,4 @@ module _ (P : ℕ → Bool) where
 
   pub first_found : (n limit : ℕ) → n < limit → first_below P n ≡ None → P n ≡ true → Some n ≡ first_below P limit
   first_found n limit h e t =
-      sym (le_ind (λ m. first_below P m ≡ Some n) (ap₂ (λ o b. or_else o (cond b (Some n) None)) e t) (λ m _ k. ap (λ o. or_else o (cond (P m) (Some m) None)) k) limit h)
+      sym (le_ind (λ m. first_below P m ≡ Some n) (ap₂ (λ o b. option_or o (cond b (Some n) None)) e t) (λ m _ k. ap (λ o. option_or o (cond (P m) (Some m) None)) k) limit h)

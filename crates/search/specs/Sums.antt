@@ -1,15 +1,11 @@
 -- The first number that passes a test, and sums of what may be absent.
 use Rattle.std.specs.Prelude.{ℕ, zero, suc, ◌+◌, min, Bool, false, cond, Some, None, Option, nat_lt}
-
--- the first of two numbers that is there
-abbrev pub or_else : Option ℕ → Option ℕ → Option ℕ
-or_else (Some m) o = Some m
-or_else None o = o
+use Rattle.std.specs.Option.{option_or}
 
 -- the first number below a limit that passes a test
 abbrev pub first_below : (ℕ → Bool) → ℕ → Option ℕ
 first_below P zero = None
-first_below P (suc n) = or_else (first_below P n) (cond (P n) (Some n) None)
+first_below P (suc n) = option_or (first_below P n) (cond (P n) (Some n) None)
 
 -- the sum of two numbers that may be absent: absent where either is
 abbrev pub plus : Option ℕ → Option ℕ → Option ℕ

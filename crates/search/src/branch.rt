@@ -20,11 +20,13 @@ pub struct Branch<'a, M> {
     pub map: &'a M,
     pub trips: &'a [Trip],
     pub bans: &'a [Ban],
+    // each trip has its cart
+    ghost few: { length trips.now ≤ 256 },
 }
 
 impl<'a, M> Branch<'a, M> {
     // The search of one cart, under one ban more where there is one.
-    fn search(&self, cart: usize, more: Option<Ban>) -> CartSearch<'a, M>
+    fn search(&self, cart: Cart, more: Option<Ban>) -> CartSearch<'a, M>
         ensures { result ≡ record { map = self.now.map; trips = self.now.trips; bans = record { branch = self.now.bans; more = more }; cart = cart } }
     {
         CartSearch {
@@ -40,14 +42,13 @@ impl<'a, M> Branch<'a, M> {
 
     // The same, if the cart is there: a `then` would hide from the proof what `search` gives.
     fn search_of(&self, cart: Cart, more: Option<Ban>) -> Option<CartSearch<'a, M>>
-        ensures there { IfSome result (λ s. (cart.0 < length self.now.trips.now) × (s ≡ record { map = self.now.map; trips = self.now.trips; bans = record { branch = self.now.bans; more = more }; cart = cart.0 })) }
+        ensures there { IfSome result (λ s. (cart.0 < length self.now.trips.now) × (s ≡ record { map = self.now.map; trips = self.now.trips; bans = record { branch = self.now.bans; more = more }; cart = cart })) }
         ensures gone { IfNone result (length self.now.trips.now ≤ cart.0) }
     {
-        let a = usize::from(cart);
-        if a >= self.trips.len() {
+        if usize::from(cart) >= self.trips.len() {
             return None;
         }
-        Some(self.search(a, more))
+        Some(self.search(cart, more))
     }
 }
 
@@ -112,7 +113,7 @@ impl<'a, M: FloorMap> Branch<'a, M> {
     {
         let mut sum = Some(0);
         for a in 0..self.trips.len() {
-            let more = self.search(a, None).least(work, Length(Tick(claim)));
+            let more = self.search(Cart(a as u8), None).least(work, Length(Tick(claim)));
             sum = add(sum, more, claim);
         }
         is_below(sum, claim)

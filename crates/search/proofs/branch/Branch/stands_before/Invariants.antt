@@ -9,4 +9,4 @@ abbrev pub invariant-loop-u : goal.invariant-loop-u
 invariant-loop-u g l =
     let s = l.search in
     let f = g.M.FloorMap.floor s.map.now in
-    (row_of f.count l.work ≡ row_at f s.trips.now (listed s.bans) s.cart l.u) × (stands_before f s.trips.now (listed s.bans) s.cart l.u l.place.0 ≡ false)
+    (row_of f.count l.work ≡ row_at f s.trips.now (listed s.bans) s.cart.0 l.u) × (stands_before f s.trips.now (listed s.bans) s.cart.0 l.u l.place.0 ≡ false)

@@ -8,5 +8,5 @@ use Rattle.search.proofs.cart_search.CartSearch.begin.Goals as goal
 pub returns : goal.returns
 returns g c =
     let s = c.args.self.now in
-    fill_by_all (λ k. eqb k (start_of s.trips.now s.cart) && can_be s.trips.now (listed s.bans) s.cart 0 k) c.loop-p.row _ false (omega arith)
+    fill_by_all (λ k. eqb k (start_of s.trips.now s.cart.0) && can_be s.trips.now (listed s.bans) s.cart.0 0 k) c.loop-p.row _ false (omega arith)
     (λ k h. c.loop-p.invariant k (omega arith))

@@ -7,4 +7,4 @@ use Rattle.search.proofs.cart_search.CartSearch.begin.Given as goal
 abbrev pub invariant-loop-p : goal.invariant-loop-p
 invariant-loop-p g l =
     let s = l.self in
-    (k : ℕ) → k < l.p → marked l.row k ≡ (eqb k (start_of s.trips.now s.cart) && can_be s.trips.now (listed s.bans) s.cart 0 k)
+    (k : ℕ) → k < l.p → marked l.row k ≡ (eqb k (start_of s.trips.now s.cart.0) && can_be s.trips.now (listed s.bans) s.cart.0 0 k)

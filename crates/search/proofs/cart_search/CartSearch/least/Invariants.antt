@@ -10,4 +10,4 @@ abbrev pub invariant-loop-u : goal.invariant-loop-u
 invariant-loop-u g l =
     let s = l.self in
     let f = g.M.FloorMap.floor s.map.now in
-    (row_of f.count l.work ≡ row_at f s.trips.now (listed s.bans) s.cart l.u) × (least_below f s.trips.now (listed s.bans) s.cart (l.u + 1) ≡ None)
+    (row_of f.count l.work ≡ row_at f s.trips.now (listed s.bans) s.cart.0 l.u) × (least_below f s.trips.now (listed s.bans) s.cart.0 (l.u + 1) ≡ None)

@@ -8,4 +8,4 @@ abbrev pub invariant-loop-u : goal.invariant-loop-u
 invariant-loop-u g l =
     let s = l.self in
     let f = g.M.FloorMap.floor s.map.now in
-    row_of f.count l.work ≡ row_at f s.trips.now (listed s.bans) s.cart l.u
+    row_of f.count l.work ≡ row_at f s.trips.now (listed s.bans) s.cart.0 l.u

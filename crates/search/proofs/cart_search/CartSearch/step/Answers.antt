@@ -12,6 +12,6 @@ returns g c =
     let f = g.M.FloorMap.floor s.map.now in
     let bans = listed s.bans in
     let end : c.loop-p.p ≡ f.count = omega arith in
-    fill_by_all (reached f s.trips.now bans s.cart c.args.t.0 c.args.row.now) c.loop-p.next _ false (omega arith)
-    (λ k h. c.loop-p.invariant k ∙ ap (λ n. pushed f s.trips.now bans s.cart c.args.t.0 c.args.row.now n k) end
-    ∙ pushed_all f s.trips.now bans s.cart c.args.t.0 c.args.row.now (g.met.M.FloorMap.lawful s.map.now) k h)
+    fill_by_all (reached f s.trips.now bans s.cart.0 c.args.t.0 c.args.row.now) c.loop-p.next _ false (omega arith)
+    (λ k h. c.loop-p.invariant k ∙ ap (λ n. pushed f s.trips.now bans s.cart.0 c.args.t.0 c.args.row.now n k) end
+    ∙ pushed_all f s.trips.now bans s.cart.0 c.args.t.0 c.args.row.now (g.met.M.FloorMap.lawful s.map.now) k h)

@@ -6,4 +6,4 @@ use Rattle.search.proofs.cart_search.CartSearch.step.Given as goal
 
 abbrev pub invariant-loop-p : goal.invariant-loop-p
 invariant-loop-p g l =
-    (k : ℕ) → marked l.next k ≡ pushed (g.M.FloorMap.floor l.self.map.now) l.self.trips.now (listed l.self.bans) l.self.cart l.t.0 l.row l.p k
+    (k : ℕ) → marked l.next k ≡ pushed (g.M.FloorMap.floor l.self.map.now) l.self.trips.now (listed l.self.bans) l.self.cart.0 l.t.0 l.row l.p k
