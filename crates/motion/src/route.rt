@@ -44,8 +44,8 @@ impl RouteRefusal {
 
 // Whether the places are a route for the trip.
 pub fn check_route<M: FloorMap>(map: &M, trip: Trip, places: &[Place]) -> Result<(), RouteRefusal>
-    ensures answer { result ≡ route_check (M.FloorMap.floor map.now) trip.start.0 trip.target.0 (numbers places.now) }
-    ensures tells { RouteTestTells (M.FloorMap.floor map.now) trip.start.0 trip.target.0 (numbers places.now) }
+    ensures is_the_route_test { result ≡ route_check (M.FloorMap.floor map.now) trip.start.0 trip.target.0 (numbers places.now) }
+    ensures each_answer_exactly { RouteTestTells (M.FloorMap.floor map.now) trip.start.0 trip.target.0 (numbers places.now) }
 {
     if !on_floor(map, places) {
         return Err(RouteRefusal::NoPlace);
@@ -95,8 +95,8 @@ fn may_step<M: FloorMap>(map: &M, from: Place, to: Place) -> bool
 // Whether the routes that two lists of places stand for conflict: an empty list conflicts with nothing. Tested tick by
 // tick, as the shorter list goes on at its last place.
 pub fn in_conflict(a: &[Place], b: &[Place]) -> bool
-    ensures answer { result ≡ in_conflict (numbers a.now) (numbers b.now) }
-    ensures tells { ConflictTestTells (numbers a.now) (numbers b.now) }
+    ensures is_the_conflict_test { result ≡ in_conflict (numbers a.now) (numbers b.now) }
+    ensures conflict_exactly { ConflictTestTells (numbers a.now) (numbers b.now) }
 {
     !a.is_empty() && !b.is_empty() && (0..a.len().max(b.len())).any(|t| clashes(a, b, t))
 }

@@ -9,5 +9,5 @@ with_one None bans = bans
 with_one (Some b) bans = b ∷ bans
 
 -- the bans of a branch, and one more where there is one
-abbrev pub listed : Bans → List Ban
-listed b = with_one b.more b.branch.now
+abbrev pub all_bans : Bans → List Ban
+all_bans b = with_one b.more b.branch.now

@@ -1,6 +1,6 @@
 // What bans let a cart do.
 ghost use Rattle.std.specs.Prelude.{◌≡◌};
-ghost use Rattle.search.specs.BanLists.{listed};
+ghost use Rattle.search.specs.BanLists.{all_bans};
 ghost use Rattle.search.specs.Least.{can_end};
 ghost use Rattle.search.specs.Lets.{within, lets_be, lets_go, lets_rest, lets_end};
 ghost use Rattle.search.specs.Pushes.{can_enter};
@@ -47,10 +47,7 @@ impl<'a, M> CartSearch<'a, M> {
                 to,
                 first,
                 last,
-            } => !(cart == self.cart
-                && covers(first, last, t)
-                && from == p
-                && to == q),
+            } => !(cart == self.cart && covers(first, last, t) && from == p && to == q),
             Ban::Stand { .. } | Ban::Late { .. } | Ban::By { .. } => true,
         }
     }
@@ -72,14 +69,9 @@ impl<'a, M> CartSearch<'a, M> {
                 to,
                 first,
                 last,
-            } => !(cart == self.cart
-                && first <= last
-                && n < last
-                && from == p
-                && to == p),
+            } => !(cart == self.cart && first <= last && n < last && from == p && to == p),
             Ban::Late { .. } => true,
-            Ban::By { cart, .. } => !(cart != self.cart
-                && trip_of(self.trips, cart).target == p),
+            Ban::By { cart, .. } => !(cart != self.cart && trip_of(self.trips, cart).target == p),
         }
     }
 
@@ -96,28 +88,28 @@ impl<'a, M> CartSearch<'a, M> {
 
     // Whether all bans let the cart be there then.
     pub fn can_be(&self, t: Tick, p: Place) -> bool
-        ensures { result ≡ can_be self.now.trips.now (listed self.now.bans) self.now.cart.0 t.0 p.0 }
+        ensures { result ≡ can_be self.now.trips.now (all_bans self.now.bans) self.now.cart.0 t.0 p.0 }
     {
         self.bans.all(|ban| self.lets_be(t, p, ban))
     }
 
     // Whether all bans let it go so.
     pub fn can_go(&self, t: Tick, p: Place, q: Place) -> bool
-        ensures { result ≡ can_go (listed self.now.bans) self.now.cart.0 t.0 p.0 q.0 }
+        ensures { result ≡ can_go (all_bans self.now.bans) self.now.cart.0 t.0 p.0 q.0 }
     {
         self.bans.all(|ban| self.lets_go(t, p, q, ban))
     }
 
     // Whether the bans let the cart go from `p` to `q`, and be there at the tick.
     pub fn can_enter(&self, t: Tick, p: Place, q: Place) -> bool
-        ensures { result ≡ can_enter self.now.trips.now (listed self.now.bans) self.now.cart.0 t.0 p.0 q.0 }
+        ensures { result ≡ can_enter self.now.trips.now (all_bans self.now.bans) self.now.cart.0 t.0 p.0 q.0 }
     {
         self.can_go(t, p, q) && self.can_be(t, q)
     }
 
     // Whether the bans let the cart have the length, and rest at its target then.
     pub fn can_end(&self, n: Length) -> bool
-        ensures { result ≡ can_end self.now.trips.now (listed self.now.bans) self.now.cart.0 n.0.0 }
+        ensures { result ≡ can_end self.now.trips.now (all_bans self.now.bans) self.now.cart.0 n.0.0 }
     {
         let target = trip_of(self.trips, self.cart).target;
         self.bans.all(|ban| self.lets_end(n, ban))

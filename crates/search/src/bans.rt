@@ -12,12 +12,12 @@ pub struct Bans<'a> {
 }
 
 impl<'a> Bans<'a> {
-    ghost use Rattle.search.specs.BanLists.{listed};
+    ghost use Rattle.search.specs.BanLists.{all_bans};
 
     // Whether every ban passes the test: first the one more, then the branch's.
     pub fn all<F: Fn(Ban) -> bool>(&self, passes: F) -> bool
         requires { F.IsAlwaysCallable passes }
-        ensures { (p : Ban → Bool) → ((b : Ban) (r : Bool) → F.post passes b r → r ≡ p b) → result ≡ every p (listed self.now) }
+        ensures { (p : Ban → Bool) → ((b : Ban) (r : Bool) → F.post passes b r → r ≡ p b) → result ≡ every p (all_bans self.now) }
     {
         if let Some(ban) = self.more
             && !passes(ban)

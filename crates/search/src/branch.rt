@@ -113,7 +113,9 @@ impl<'a, M: FloorMap> Branch<'a, M> {
     {
         let mut sum = Some(0);
         for a in 0..self.trips.len() {
-            let more = self.search(Cart(a as u8), None).least(work, Length(Tick(claim)));
+            let more = self
+                .search(Cart(a as u8), None)
+                .least(work, Length(Tick(claim)));
             sum = add(sum, more, claim);
         }
         is_below(sum, claim)

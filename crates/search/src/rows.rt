@@ -1,6 +1,6 @@
 // The places that a cart can stand at, tick by tick.
 ghost use Rattle.std.specs.Prelude.{◌≡◌, ℕ, ◌<◌, ◌&&◌, ◌||◌, length, ◌==◌};
-ghost use Rattle.search.specs.BanLists.{listed};
+ghost use Rattle.search.specs.BanLists.{all_bans};
 ghost use Rattle.search.specs.Pushes.{can_enter, can_step};
 ghost use Rattle.search.specs.Rows.{marked, first_row, next_row};
 
@@ -18,7 +18,7 @@ pub fn marks(row: &[bool], p: Place) -> bool
 impl<'a, M: FloorMap> CartSearch<'a, M> {
     // Writes the row of tick 0.
     pub fn begin(&self, row: &mut [bool])
-        ensures { row.new ≡ first_row self.now.trips.now (listed self.now.bans) self.now.cart.0 (length row.old) }
+        ensures { row.new ≡ first_row self.now.trips.now (all_bans self.now.bans) self.now.cart.0 (length row.old) }
     {
         let start = trip_of(self.trips, self.cart).start;
         for (p, mark) in row.iter_mut().enumerate() {
@@ -29,7 +29,7 @@ impl<'a, M: FloorMap> CartSearch<'a, M> {
     // Marks `q`, if the bans let the cart enter it from `p`. A place that is marked already asks no ban.
     fn enter(&self, t: Tick, p: Place, q: Place, next: &mut [bool])
         requires { q.0 < length next.old }
-        ensures { (k : ℕ) → marked next.new k ≡ ((q.0 == k && can_enter self.now.trips.now (listed self.now.bans) self.now.cart.0 t.0 p.0 k) || marked next.old k) }
+        ensures { (k : ℕ) → marked next.new k ≡ ((q.0 == k && can_enter self.now.trips.now (all_bans self.now.bans) self.now.cart.0 t.0 p.0 k) || marked next.old k) }
     {
         if next[usize::from(q)] {
             return;
@@ -43,7 +43,7 @@ impl<'a, M: FloorMap> CartSearch<'a, M> {
     fn push_from(&self, t: Tick, p: Place, next: &mut [bool])
         requires within { p.0 < length next.old }
         requires next { length next.old ≡ (M.floor self.now.map.now).count }
-        ensures { (k : ℕ) → marked next.new k ≡ (can_step (M.floor self.now.map.now) self.now.trips.now (listed self.now.bans) self.now.cart.0 t.0 p.0 k || marked next.old k) }
+        ensures { (k : ℕ) → marked next.new k ≡ (can_step (M.floor self.now.map.now) self.now.trips.now (all_bans self.now.bans) self.now.cart.0 t.0 p.0 k || marked next.old k) }
     {
         self.enter(t, p, p, next);
         for q in neighbours_of(self.map, p) {
@@ -57,7 +57,7 @@ impl<'a, M: FloorMap> CartSearch<'a, M> {
     pub fn step(&self, t: Tick, row: &[bool], next: &mut [bool])
         requires row { length row.now ≡ (M.floor self.now.map.now).count }
         requires next { length next.old ≡ (M.floor self.now.map.now).count }
-        ensures { next.new ≡ next_row (M.floor self.now.map.now) self.now.trips.now (listed self.now.bans) self.now.cart.0 t.0 row.now }
+        ensures { next.new ≡ next_row (M.floor self.now.map.now) self.now.trips.now (all_bans self.now.bans) self.now.cart.0 t.0 row.now }
     {
         next.fill(false);
         for (p, &marked) in row.iter().enumerate() {

@@ -13,15 +13,15 @@ returns-then-has-clause-answers g c = shown_already _ _ c.in_ok-opened.ensures _
 pub returns-in_err-check_route-clause-answers : goal.returns-in_err-check_route-clause-answers
 returns-in_err-check_route-clause-answers g c =
     let p = err_from_is_err_and c.from_residual-in_err-check_route.result c.from_residual-in_err-check_route.ensures.1 in
-    rw (p.1, p.2) (no_route _ _ c.in_ok-opened.ensures _ _ _ c.in_ok-trip.ensures.found c.if-has.ensures _ c.check_route.ensures.answer _ c.in_err-check_route.was)
+    rw (p.1, p.2) (no_route _ _ c.in_ok-opened.ensures _ _ _ c.in_ok-trip.ensures.found c.if-has.ensures _ c.check_route.ensures.is_the_route_test _ c.in_err-check_route.was)
 
 pub returns-then-conflict-clause-answers : goal.returns-then-conflict-clause-answers
 returns-then-conflict-clause-answers g c =
-    conflict_found _ _ c.in_ok-opened.ensures _ _ _ c.in_ok-trip.ensures.found c.if-has.ensures _ c.check_route.ensures.answer c.in_ok-check_route.was c.if-conflict.ensures
+    conflict_found _ _ c.in_ok-opened.ensures _ _ _ c.in_ok-trip.ensures.found c.if-has.ensures _ c.check_route.ensures.is_the_route_test c.in_ok-check_route.was c.if-conflict.ensures
 
 pub show-requires : goal.show-requires
-show-requires g c = room_for_route _ c.args.self.now.book c.in_ok-opened.ensures _ _ _ c.in_ok-trip.ensures.found c.if-has.ensures _ c.check_route.ensures.answer c.in_ok-check_route.was
+show-requires g c = room_for_route _ c.args.self.now.book c.in_ok-opened.ensures _ _ _ c.in_ok-trip.ensures.found c.if-has.ensures _ c.check_route.ensures.is_the_route_test c.in_ok-check_route.was
 
 pub returns-clause-answers : goal.returns-clause-answers
 returns-clause-answers g c =
-    route_shown _ _ c.in_ok-opened.ensures _ _ _ c.in_ok-trip.ensures.found c.if-has.ensures _ c.check_route.ensures.answer c.in_ok-check_route.was _ c.if-conflict.ensures c.show.ensures
+    route_shown _ _ c.in_ok-opened.ensures _ _ _ c.in_ok-trip.ensures.found c.if-has.ensures _ c.check_route.ensures.is_the_route_test c.in_ok-check_route.was _ c.if-conflict.ensures c.show.ensures
