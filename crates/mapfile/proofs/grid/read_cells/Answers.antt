@@ -1,6 +1,5 @@
-use Rattle.std.proofs.Common.{◌≡◌, ◌≤◌, ◌+◌, ◌*◌, vec_items, add-mul, one-mul, arith}
+use Rattle.std.proofs.Common.{vec_items, add-mul, one-mul, arith}
 use Rattle.std.proofs.lemmas.Bool.Decides.{nat_tests}
-use Rattle.std.proofs.lemmas.Nat.{mul-le}
 use Rattle.mapfile.proofs.FaultAnswers.{passed_on}
 use Rattle.mapfile.proofs.RowSteps.{row_read, row_stops, rows_end}
 use Rattle.mapfile.proofs.grid.read_cells.Goals as goal
@@ -13,7 +12,7 @@ returns-in_err-rest-clause-is_the_reading c =
 pub loop-preserved : goal.loop-preserved
 loop-preserved c =
     let more = c.in_ok-rest.ensures in (
-      row_read _ c.args.heading.height c.loop.counter c.args.heading.width c.loop.rest (vec_items c.loop.cells) c.loop.invariant.0 (omega arith) (vec_items c.read_row.new.cells) c.in_ok-rest.rest more.reads,
+      row_read _ c.args.heading.height c.loop.counter c.args.heading.width c.loop.rest (vec_items c.loop.cells) c.loop.invariant.0 (omega arith) (vec_items c.read_row.new.cells) c.in_ok-rest.rest more.is_the_reading,
       omega (arith, more.few, c.loop.invariant.1, add-mul c.loop.counter 1 c.args.heading.width, one-mul c.args.heading.width),
       omega (arith, more.room, c.loop.invariant.2),
     )

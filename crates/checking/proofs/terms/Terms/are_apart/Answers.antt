@@ -1,4 +1,4 @@
-use Rattle.std.proofs.Common.{arith, rules, ℕ, length}
+use Rattle.std.proofs.Common.{arith, rules, length}
 use borrow.Author.Tests.{tests}
 use Rattle.floor.specs.Tests.{every_below}
 use Rattle.std.proofs.lemmas.Iterator.Search.{all_from_yields_List}
