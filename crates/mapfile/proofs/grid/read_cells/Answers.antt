@@ -1,6 +1,5 @@
-use Rattle.std.proofs.Common.{◌≡◌, ◌≤◌, ◌+◌, ◌*◌, vec_items, add-mul, one-mul, arith}
+use Rattle.std.proofs.Common.{vec_items, add-mul, one-mul, arith}
 use Rattle.std.proofs.lemmas.Bool.Decides.{nat_tests}
-use Rattle.std.proofs.lemmas.Nat.{mul-le}
 use Rattle.mapfile.proofs.FaultAnswers.{passed_on}
 use Rattle.mapfile.proofs.RowSteps.{row_read, row_stops, rows_end}
 use Rattle.mapfile.proofs.grid.read_cells.Goals as goal

@@ -1,5 +1,5 @@
-use Rattle.std.proofs.Common.{◌≡◌, ℕ, ◌<◌, length, get_or-take, take, length-take, min, arith}
-use Rattle.mapfile.proofs.RowSteps.{sign_read, sign_faulty, row_ends, row_breaks}
+use Rattle.std.proofs.Common.{ℕ, ◌<◌, get_or-take, length-take, arith}
+use Rattle.mapfile.proofs.RowSteps.{sign_read, sign_faulty}
 use Rattle.std.proofs.lemmas.Result.{err_from_is_err_and}
 use Rattle.mapfile.proofs.grid.read_row.Goals as goal
 
