@@ -1,14 +1,11 @@
 -- The rows of a grid, read sign by sign.
-use Rattle.std.proofs.Common.{◌≡◌, ℕ, zero, suc, ◌+◌, ◌-◌, ◌<◌, ◌≤◌, min, eqb, Bool, List, [], ◌∷◌, ◌++◌, length, get_or, drop, Ok, Err, Result, ⊎_elim, sym, refl, ap, ◌∙◌, append_assoc, append-nil, sub-one, arith}
+use Rattle.std.proofs.Common.{◌≡◌, ℕ, zero, suc, ◌+◌, ◌-◌, ◌<◌, ◌≤◌, eqb, Bool, List, [], ◌∷◌, ◌++◌, length, get_or, drop, Ok, Err, Result, sym, refl, ap, ◌∙◌, append_assoc, append-nil, sub-one, arith}
 use Rattle.maps.specs.Signs.{sign_of}
-use Rattle.maps.specs.declared.refusal.MapRefusal.TheVariants.{Ragged}
-use Rattle.mapfile.specs.Faults.{fault}
 use Rattle.mapfile.specs.GridFiles.{before_cells, body, cell}
 use Rattle.mapfile.specs.GridReads.{ReadsCell, ReadsRow, after_cells}
 use Rattle.cursor.specs.declared.reader.Cursor.{Cursor}
 use Rattle.mapfile.specs.declared.fault.Fault.{Fault}
 use Rattle.std.proofs.lemmas.List.{at_drop_more, at_drop_all}
-use Rattle.std.proofs.lemmas.Bool.{eq-eqb, ne_eqb, cases_lt}
 
 pub after_none : (cells : List Bool) (r : Result (List Bool) Fault) → cells ≡ [] → r ≡ after_cells cells r
 after_none cells (Ok others) none = rw none
@@ -37,23 +34,6 @@ module _ (all : Result (List Bool) Fault) (cells : List Bool) (rows width at i :
 
     pub sign_faulty : (f : Fault) → ReadsCell (get_or bytes i 0) (at + i) (Err f) → all ≡ Err f
     sign_faulty f reads = all_from (sign_due rows (width - i) width (at + i) i bytes (omega arith) there ∙ reads _)
-
-  -- at the row's end, or where the file ends in it
-  module _ (read : i ≡ min width (length bytes)) where
-    pub row_ends : width < length bytes → get_or bytes width 0 ≡ 10 → all ≡ after_cells cells (body rows width width (at + (width + 1)) (drop (width + 1) bytes))
-    row_ends there due =
-        let whole : i ≡ width = omega arith in let none : width - width ≡ 0 = omega arith in
-        let on : at + width + 1 ≡ at + (width + 1) = omega arith in
-        rw (on, eq-eqb _ _ due) at (rw (whole, none) at inv ∙ ap (after_cells cells) (at_drop_more (body (suc rows) 0 width (at + width)) bytes width 0 there))
-
-    pub row_breaks : (width < length bytes → get_or bytes width 0 ≡ 10 → ⊥) → all ≡ Err (fault Ragged (at + i))
-    row_breaks other =
-        ⊎_elim
-        (λ there.
-        let whole : i ≡ width = omega arith in let none : width - width ≡ 0 = omega arith in
-        rw (ne_eqb _ _ (other there), ← whole) at (rw (whole, none) at inv ∙ ap (after_cells cells) (at_drop_more (body (suc rows) 0 width (at + width)) bytes width 0 there)))
-        (λ past. all_from (at_drop_all (body (suc rows) (width - i) width (at + i)) bytes i (omega arith)))
-        (cases_lt width (length bytes))
 
 -- from row to row
 module _ (all : Result (List Bool) Fault) (height count width : ℕ) (row : Cursor) (cells : List Bool) (inv : all ≡ after_cells cells (body (height - count) width width row.at row.bytes.now)) where
