@@ -8,6 +8,7 @@ pub struct Bans {
     current: Vec<Ban>,
     // the right sides still to come, each with how many bans stand above it
     waiting: Vec<(usize, Ban)>,
+    open: bool,
 }
 
 impl Bans {
@@ -15,11 +16,13 @@ impl Bans {
         Bans {
             current: Vec::new(heap),
             waiting: Vec::new(heap),
+            open: true,
         }
     }
 
-    pub fn current(&self) -> &[Ban] {
-        self.current.as_slice()
+    // None where no branch is open.
+    pub fn current(&self) -> Option<&[Ban]> {
+        self.open.then_some(self.current.as_slice())
     }
 
     // Goes to the left side.
@@ -31,10 +34,12 @@ impl Bans {
 
     // Goes to the nearest right side to come, if there is one.
     pub fn close(&mut self) -> Result<(), AllocError> {
-        if let Some((above, right)) = self.waiting.pop() {
-            self.current.truncate(above);
-            self.current.push(right)?;
-        }
+        let Some((above, right)) = self.waiting.pop() else {
+            self.open = false;
+            return Ok(());
+        };
+        self.current.truncate(above);
+        self.current.push(right)?;
         Ok(())
     }
 }
