@@ -9,6 +9,9 @@ pub trait Reason: Display + Drop {
     fn refusal(&self) -> Refusal;
 }
 
+// The answer to a call, if it could be told.
+pub type Told = anyhow::Result<Result<(), Refusal>>;
+
 pub fn tell_taken(rt: &HostRuntime) -> io::Result<()> {
     println!(rt; "    taken")
 }

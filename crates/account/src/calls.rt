@@ -1,12 +1,15 @@
 // The calls of a plan, told one by one with their answers.
-use crate::answers::{tell_refused, tell_standing, tell_taken};
+use crate::answers::{Told, tell_refused, tell_standing, tell_taken};
 use crate::bars::bar_of;
-use crate::commands::tell_command;
+use crate::closings::tell_close;
 use crate::opening::tell_fault;
+use crate::routes::Shown;
 use crate::scene::Scene;
+use crate::shows::tell_show;
+use crate::splitting::tell_split;
 use checking::{Check, Terms, open};
 use floor::FloorMap;
-use plan::{Commands, Fault, FileRefusal, Heading, PlanRefusal};
+use plan::{Command, Commands, Fault, FileRefusal, Heading, PlanRefusal};
 use search::Workspace;
 use splits::{OwnRules, own_rules};
 use std::io;
@@ -84,6 +87,21 @@ fn tell_calls<'a, M: FloorMap>(
         }
     }
     Ok(End::Settled)
+}
+
+// A command and its answer.
+fn tell_command<'a, M: FloorMap>(
+    rt: &HostRuntime,
+    work: &mut Workspace,
+    check: &mut Check<'_, M, OwnRules>,
+    scene: &mut Scene<'a, M>,
+    command: Command<'a>,
+) -> Told {
+    match command {
+        Command::Route { cart, places } => tell_show(rt, check, scene, Shown { cart, places }),
+        Command::Split { letter, behind } => tell_split(rt, work, check, scene, letter, behind),
+        Command::Close => tell_close(rt, work, check, scene),
+    }
 }
 
 // The `Z` at an offset.

@@ -1,8 +1,11 @@
-// What the bans of a branch leave the carts, and why a closing is refused.
-use crate::answers::Reason;
+// A closing of the current branch, with what its bans leave the carts, and its answer.
+use crate::answers::{Reason, Told, tell_refused, tell_taken};
+use crate::scene::Scene;
+use checking::Check;
 use floor::{Cart, FloorMap, Tick};
 use motion::Length;
 use search::{Branch, Workspace};
+use splits::OwnRules;
 use std::fmt::{Display, Formatter};
 use std::{fmt, io};
 use tally::Refusal;
@@ -32,9 +35,28 @@ impl Reason for ClosingReason {
     }
 }
 
+pub fn tell_close<M: FloorMap>(
+    rt: &HostRuntime,
+    work: &mut Workspace,
+    check: &mut Check<'_, M, OwnRules>,
+    scene: &Scene<'_, M>,
+) -> Told {
+    println!(rt; "close")?;
+    let reason = match scene.branch(check) {
+        Some(branch) => tell_lengths(rt, work, &branch, scene.claim)?,
+        None => Some(ClosingReason::NothingOpen),
+    };
+    let answer = check.close(work);
+    match answer {
+        Ok(()) => tell_taken(rt)?,
+        Err(refusal) => tell_refused(rt, refusal, reason)?,
+    }
+    Ok(answer)
+}
+
 // The least lengths of all carts on a branch, each as far as it is below the claim, and their sum where all are: the
 // reason not to close, if there is one.
-pub fn tell_lengths<M: FloorMap>(
+fn tell_lengths<M: FloorMap>(
     rt: &HostRuntime,
     work: &mut Workspace,
     branch: &Branch<M>,

@@ -3,11 +3,9 @@
 #![tactic(auto)]
 
 mod answers;
-mod bans;
 mod bars;
 mod calls;
 mod closings;
-mod commands;
 mod conflicts;
 mod corridors;
 mod earliest;
@@ -19,7 +17,9 @@ mod passing;
 mod picture;
 mod routes;
 mod scene;
+mod shows;
 mod split_reasons;
+mod splitting;
 
 use calls::tell_check;
 use hall::tell_hall;

@@ -5,4 +5,3 @@ pub mod Exits
 pub mod Calling
 pub mod SoundAndComplete
 pub mod Running
-pub mod Totals

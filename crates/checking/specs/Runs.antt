@@ -2,7 +2,8 @@
 use Rattle.std.specs.Prelude.{◌≡◌, List, [], ◌∷◌, ◌++◌, Some}
 use Rattle.tally.specs.CallAnswers.{answer, after, after_all}
 use Rattle.tally.specs.Calls.{Call}
-use Rattle.tally.specs.Laws.{Holds, Succeeds}
+use Rattle.tally.specs.Counts.{CountsTaken}
+use Rattle.tally.specs.Laws.{SoundTally, Succeeds}
 use Rattle.tally.specs.Openings.{Opening, Openable}
 use Rattle.tally.specs.Plans.{HonestPlan, CallsOf}
 use Rattle.tally.specs.Standings.{settle, standing}
@@ -29,11 +30,13 @@ pub record Follows (o : Opening) (before later : List CallAndStep) (run : Run) :
 
 -- What holds of the calls, whatever they are and whether they are taken or refused.
 pub record SoundAndComplete (o : Opening) (calls : List Call) : Type 0 where
-  -- At the start and after every call: open branches and closings taken are one more than splits taken; each
-  -- conflict-free set below the claim keeps all bans of an open branch; with no open branch no conflict-free set is
+  -- At the start and after every call: each verdict stands exactly when its conditions hold; open branches and closings
+  -- are one more than splits; each conflict-free set below the claim keeps all bans of an open branch; with no open branch no conflict-free set is
   -- below the claim; settling with the check's own card says least exactly when nothing is open and every cart has a
   -- route, summing to the claim; and then these routes are free of conflict and no conflict-free set sums to less.
-  pub holds_at_every_tally : (before rest : List Call) → before ++ rest ≡ calls → Holds o (after_all o at_start before)
+  pub sound_after_every_call : (before rest : List Call) → before ++ rest ≡ calls → SoundTally o (after_all o at_start before)
+  -- At the start and after every call, the splits and the closings of the standing are those taken so far.
+  pub counts_after_every_call : (before rest : List Call) → before ++ rest ≡ calls → CountsTaken o before
   -- Are they the calls of an honest tree within the limits, with its routes shown anywhere between, then each is taken
   -- and the settlement says least.
   pub honest_plans_succeed : Openable o → (plan : HonestPlan o) → CallsOf plan calls → Succeeds o calls

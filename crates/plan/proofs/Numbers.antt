@@ -4,7 +4,7 @@ use Rattle.std.proofs.lemmas.List.Elements.{All-contains}
 use Rattle.motion.specs.Listed.{steps}
 use Rattle.search.proofs.Sums.{total_most}
 use Rattle.tally.specs.CallAnswers.{Reached}
-use Rattle.tally.specs.Openings.{Opening, Openable, RouteOf, Sound, carts}
+use Rattle.tally.specs.Openings.{Opening, Openable, RouteOf, LawfulOpening, carts}
 use Rattle.tally.specs.Standings.{number_in, places_shown, shown_sum, standing, unshown, verdict_of}
 use Rattle.tally.specs.Tallies.{Tally, is_shown, shown_of}
 use Rattle.tally.specs.declared.standing.Verdict.TheVariants.{Open, Unshown, OtherSum, Least}
@@ -24,7 +24,7 @@ module _ (branches missing sum claim : ℕ) (few : branches ≤ 65) (few_missing
   first_small false false true = omega (arith, small_claim)
   first_small false false false = small_sum
 
-module _ (o : Opening) (sound : Sound o) (openable : Openable o) (t : Tally) (reached : Reached o t) where
+module _ (o : Opening) (sound : LawfulOpening o) (openable : Openable o) (t : Tally) (reached : Reached o t) where
   few_steps : (a : ℕ) → steps (places_shown t a) ≤ 255
   few_steps a = by (shown_of t a) refl
     where

@@ -22,7 +22,7 @@ use Rattle.plan.proofs.HeadingFinds.{HeadingFinds, heading_find, no_heading, who
 use Rattle.plan.proofs.CallsWritten.{calls_lead, calls_written, left_within, stopped_made}
 use Rattle.plan.proofs.HeadingWritten.{carts_refused, heading_refuses, heading_written}
 use Rattle.tally.specs.CallAnswers.{after_all}
-use Rattle.tally.specs.Openings.{BarredBy, Opening, Opens, Sound, by_carts, by_claim, by_places, by_sharing, opened}
+use Rattle.tally.specs.Openings.{BarredBy, Opening, Opens, LawfulOpening, by_carts, by_claim, by_places, by_sharing, opened}
 use Rattle.tally.specs.Standings.{standing}
 use Rattle.tally.specs.Tallies.{Tally, at_start}
 use Rattle.tally.specs.declared.refusal.Refusal.{Refusal}
@@ -113,7 +113,7 @@ module _ (f : Floor) (floor : Lawful f) (r : Rules) (law : LawfulRules r) where
       let check = opening f r claim trips in
       let offset = 4 + 5 * length trips in
       let t = after_all check at_start calls in
-      let sound : Sound check = record { floor = floor; rules = law } in
+      let sound : LawfulOpening check = record { floor = floor; rules = law } in
       let front = length_heading claim trips in
       let long = simp length-append at (ap length text) in
       let there = left_within r rest calls behind calls_text in

@@ -1,5 +1,5 @@
 -- What holds of every plan file.
-use Rattle.std.proofs.Common.{◌≡◌, ℕ, ◌≤◌, nat_le, ◌==◌, List, Ok, Err, Result, refl, ap, ◌∙◌, sym, subst, arith}
+use Rattle.std.proofs.Common.{◌≡◌, ℕ, ◌+◌, ◌≤◌, ◌↔◌, nat_le, ◌==◌, List, Ok, Err, Result, refl, ap, ◌∙◌, sym, subst, arith}
 use Rattle.std.proofs.lemmas.Bool.{cases_Bool}
 use Rattle.std.proofs.lemmas.List.{nil_from_length}
 use Rattle.floor.specs.Floor.{Floor, Lawful}
@@ -7,20 +7,25 @@ use Rattle.floor.proofs.Chains.{ok_same}
 use Rattle.mapfile.specs.ListLayout.{Bytes}
 use Rattle.splits.specs.Rules.{Rules, LawfulRules}
 use Rattle.plan.specs.Layout.{Settles}
-use Rattle.plan.specs.SoundAndComplete.{PlanOf, PlanSoundAndComplete, ProvesBound, ProvesLeast}
+use Rattle.plan.specs.SoundAndComplete.{PlanOf, PlanSoundAndComplete, ProvesBound, ProvesLeast, ShownBy, StandsByPlan}
 use Rattle.plan.specs.Reading.{opening}
 use Rattle.plan.proofs.FaultPlaces.{plan_fault_within}
 use Rattle.plan.proofs.Numbers.{standing_small}
 use Rattle.plan.proofs.PlanFinds.{plan_faults_exactly, plan_read_exactly}
 use Rattle.tally.specs.CallAnswers.{after_all}
-use Rattle.tally.specs.Laws.{Holds}
-use Rattle.tally.specs.Openings.{Opening, opened}
+use Rattle.tally.specs.Counts.{closings_in, splits_in, taken_of}
+use Rattle.tally.specs.Laws.{SoundTally}
+use Rattle.tally.specs.Openings.{LawfulOpening, Opening, opened}
+use Rattle.tally.specs.StandsAs.{StandsAs}
 use Rattle.tally.specs.Standings.{number_in, standing, verdict_of}
 use Rattle.tally.specs.declared.refusal.Refusal.{Refusal}
 use Rattle.tally.specs.Tallies.{Tally, at_start}
 use Rattle.tally.specs.declared.standing.Standing.{Standing}
 use Rattle.tally.specs.declared.standing.Verdict.TheVariants.{Least}
-use Rattle.tally.proofs.Holding.{always_holds}
+use Rattle.tally.proofs.AllTaken.{all_of_taken, shown_by_calls}
+use Rattle.tally.proofs.Counting.{counts_taken}
+use Rattle.tally.proofs.Verdicts.{stands_exactly}
+use Rattle.tally.proofs.Holding.{sound_after_any_calls}
 use Rattle.tally.proofs.Honest.{honest_succeeds}
 
 -- a verdict of least names the claim
@@ -37,9 +42,9 @@ module _ (f : Floor) (r : Rules) (floor : Lawful f) (rules : LawfulRules r) (byt
     t : Tally
     t = after_all o at_start settles.calls
 
-    holds : Holds o t
+    holds : SoundTally o t
     unfolding o t
-    holds = always_holds o (record { floor = floor; rules = rules }) t (settles.calls, refl)
+    holds = sound_after_any_calls o (record { floor = floor; rules = rules }) t (settles.calls, refl)
 
     stands : standing o t ≡ s
     unfolding o t
@@ -47,6 +52,24 @@ module _ (f : Floor) (r : Rules) (floor : Lawful f) (rules : LawfulRules r) (byt
 
     plan : PlanOf r bytes settles.claim
     plan = record { trips = settles.trips; calls = settles.calls; text = settles.text }
+
+    stands_by_calls : StandsByPlan f r bytes s
+    unfolding o t plan
+    stands_by_calls =
+        let sound : LawfulOpening o = record { floor = floor; rules = rules } in
+        let all : taken_of o at_start settles.calls ≡ settles.calls = all_of_taken o settles.calls at_start settles.all_taken.taken in
+        let counts = counts_taken o sound settles.calls in
+        let agree : (standing o t).branches + (standing o t).closings ≡ (standing o t).splits + 1 = holds.counts_agree in
+        record {
+          claim = settles.claim;
+          plan = plan;
+          openable = settles.all_taken.opens;
+          splits = sym (ap (λ u. u.splits) stands) ∙ counts.splits ∙ ap splits_in all;
+          closings = sym (ap (λ u. u.closings) stands) ∙ counts.closings ∙ ap closings_in all;
+          branches = subst (λ u. u.branches + u.closings ≡ u.splits + 1) stands agree;
+          verdict = λ v. subst (λ u. (u.verdict ≡ v) ↔ StandsAs o u.branches (ShownBy settles.calls) v) stands
+              (stands_exactly o t (ShownBy settles.calls) (shown_by_calls o sound settles.calls settles.all_taken.taken) v);
+        }
 
   proves_least : (s : Standing) (n : ℕ) → Settles f r bytes s → s.verdict ≡ Least n → ProvesLeast f r bytes n
   unfolding o t plan
@@ -79,6 +102,7 @@ module _ (f : Floor) (r : Rules) (floor : Lawful f) (rules : LawfulRules r) (byt
     read_exactly = plan_read_exactly f floor r rules bytes low;
     faults_exactly = plan_faults_exactly f floor r rules bytes low;
     fault_is_in_file = λ fault is. plan_fault_within f r bytes fault.refusal fault.offset ((plan_faults_exactly f floor r rules bytes low fault).0 is);
+    stands_by_plan = λ s is. stands_by_calls s ((plan_read_exactly f floor r rules bytes low s).0 is);
     least_is_least = λ s n is least. proves_least s n ((plan_read_exactly f floor r rules bytes low s).0 is) least;
     none_open_is_bound = λ s is none. proves_bound s ((plan_read_exactly f floor r rules bytes low s).0 is) none;
     number_is_small = λ s is. number_small s ((plan_read_exactly f floor r rules bytes low s).0 is);

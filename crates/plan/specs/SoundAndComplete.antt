@@ -1,5 +1,5 @@
 -- What holds of every plan file.
-use Rattle.std.specs.Prelude.{◌≡◌, ℕ, ◌≤◌, List, length, Ok, Err}
+use Rattle.std.specs.Prelude.{◌≡◌, ℕ, ◌+◌, ◌≤◌, ◌↔◌, List, length, Ok, Err, Contains}
 use Rattle.floor.specs.Floor.{Floor}
 use Rattle.motion.specs.declared.trip.Trip.{Trip}
 use Rattle.splits.specs.Rules.{Rules}
@@ -8,13 +8,16 @@ use Rattle.plan.specs.Layout.{PlanReadExactly, PlanText}
 use Rattle.plan.specs.Reading.{opening, plan_reading}
 use Rattle.plan.specs.declared.fault.Fault.{Fault}
 use Rattle.tally.specs.CallAnswers.{after_all}
-use Rattle.tally.specs.Calls.{Call}
+use Rattle.tally.specs.Calls.{Call, show}
+use Rattle.tally.specs.Counts.{closings_in, splits_in}
 use Rattle.tally.specs.Laws.{Complete, NoRival, ShownLeast}
 use Rattle.tally.specs.Openings.{Openable}
 use Rattle.tally.specs.Plans.{CallsOf, HonestPlan}
 use Rattle.tally.specs.Standings.{number_in}
+use Rattle.tally.specs.StandsAs.{StandsAs}
 use Rattle.tally.specs.Tallies.{at_start}
 use Rattle.tally.specs.declared.standing.Standing.{Standing}
+use Rattle.tally.specs.declared.standing.Verdict.{Verdict}
 use Rattle.tally.specs.declared.standing.Verdict.TheVariants.{Least}
 
 -- the bytes are a plan that claims n for these trips, and its calls
@@ -36,6 +39,22 @@ pub record ProvesBound (f : Floor) (r : Rules) (bytes : List ℕ) : Type 0 where
   pub plan : PlanOf r bytes claim
   pub no_rival : NoRival (opening f r claim plan.trips)
 
+-- the plan shows the places as the route of the cart
+abbrev pub ShownBy : List Call → ℕ → List ℕ → Type 0
+ShownBy calls a ps = Contains calls (show a ps)
+
+-- The check of the plan's claim and trips is not barred, and the standing is what the plan's own calls come to: it has
+-- their splits and closings, the branches that these leave open, and the verdict whose conditions hold of the claim,
+-- the trips and the routes that the plan shows.
+pub record StandsByPlan (f : Floor) (r : Rules) (bytes : List ℕ) (s : Standing) : Type 0 where
+  pub claim : ℕ
+  pub plan : PlanOf r bytes claim
+  pub openable : Openable (opening f r claim plan.trips)
+  pub splits : s.splits ≡ splits_in plan.calls
+  pub closings : s.closings ≡ closings_in plan.calls
+  pub branches : s.branches + s.closings ≡ s.splits + 1
+  pub verdict : (v : Verdict) → (s.verdict ≡ v) ↔ StandsAs (opening f r claim plan.trips) s.branches (ShownBy plan.calls) v
+
 -- What holds of the bytes of a plan, whatever they are.
 pub record PlanSoundAndComplete (f : Floor) (r : Rules) (bytes : List ℕ) : Type 0 where
   -- It comes to a standing exactly when it is laid out as a plan whose calls are all taken, and then it is that run's
@@ -45,6 +64,8 @@ pub record PlanSoundAndComplete (f : Floor) (r : Rules) (bytes : List ℕ) : Typ
   pub faults_exactly : PlanFaultsExactly f r bytes
   -- The offset of a fault is that of a byte of the file, or its length.
   pub fault_is_in_file : (fault : Fault) → plan_reading f r bytes ≡ Err fault → fault.offset ≤ length bytes
+  -- The standing that a plan comes to is what its own calls come to.
+  pub stands_by_plan : (s : Standing) → plan_reading f r bytes ≡ Ok s → StandsByPlan f r bytes s
   -- A plan that settles as `least n` shows a least set, and the least sum is n.
   pub least_is_least : (s : Standing) (n : ℕ) → plan_reading f r bytes ≡ Ok s → s.verdict ≡ Least n → ProvesLeast f r bytes n
   -- A plan that leaves no branch open proves its claim as a lower bound, whatever routes it shows.

@@ -106,6 +106,7 @@ module _ (map plan : List ℕ) (map_low : Bytes map) (low : Bytes plan) where
     read_exactly = files_read_exactly;
     faults_exactly = files_faults_exactly;
     fault_is_in_file = λ f is. fault_within f ((files_faults_exactly f).0 is);
+    stands_by_plan = λ s is. let st = stands s is in (hall_of st, (kept st.hall st.text).stands_by_plan s st.plan_read);
     least_is_least = λ s n is least. let st = stands s is in (hall_of st, (kept st.hall st.text).least_is_least s n st.plan_read least);
     none_open_is_bound = λ s is none. let st = stands s is in (hall_of st, (kept st.hall st.text).none_open_is_bound s st.plan_read none);
     number_is_small = λ s is. let st = stands s is in (kept st.hall st.text).number_is_small s st.plan_read;

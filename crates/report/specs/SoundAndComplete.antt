@@ -4,7 +4,7 @@ use Rattle.maps.specs.AnyMaps.{Hall, hall_floor}
 use Rattle.mapfile.specs.MapFiles.{MapText}
 use Rattle.motion.specs.declared.trip.Trip.{Trip}
 use Rattle.plan.specs.Layout.{PlanText}
-use Rattle.plan.specs.SoundAndComplete.{ProvesBound, ProvesLeast}
+use Rattle.plan.specs.SoundAndComplete.{ProvesBound, ProvesLeast, StandsByPlan}
 use Rattle.tally.specs.Standings.{number_in}
 use Rattle.plan.specs.Reading.{opening}
 use Rattle.report.specs.Faults.{file_of, offset_of}
@@ -30,6 +30,9 @@ pub record FilesSoundAndComplete (map plan : List ℕ) : Type 0 where
   pub faults_exactly : FilesFaultsExactly map plan
   -- The offset of a fault is that of a byte of its file, or the file's length.
   pub fault_is_in_file : (f : Fault) → files_reading map plan ≡ Err f → offset_of f ≤ length (file_of f map plan)
+  -- The standing that they come to is what the plan's own calls come to on the hall's floor: its splits, its closings,
+  -- and the verdict whose conditions hold of its claim, its trips and the routes that it shows.
+  pub stands_by_plan : (s : Standing) → files_reading map plan ≡ Ok s → (h : HallOf map) × StandsByPlan (hall_floor h.hall) own plan s
   -- `least n`: on the hall's floor the routes that the plan shows are a conflict-free set for its carts that sums to n,
   -- and no conflict-free set of routes for them, of any lengths, sums to less.
   pub least_is_least : (s : Standing) (n : ℕ) → files_reading map plan ≡ Ok s → s.verdict ≡ Least n → (h : HallOf map) × ProvesLeast (hall_floor h.hall) own plan n

@@ -2,7 +2,7 @@
 use Rattle.std.proofs.Common.{◌≡◌, [], length, Ok, Err, Result, sym, refl, ap, ◌∙◌, arith}
 use Rattle.floor.proofs.Chains.{ok_no_err}
 use Rattle.tally.specs.CallAnswers.{Reached}
-use Rattle.tally.specs.Openings.{BarredBy, Opening, Sound, opened}
+use Rattle.tally.specs.Openings.{BarredBy, Opening, LawfulOpening, opened}
 use Rattle.tally.specs.Standings.{shown_sum, standing, unshown, verdict_of}
 use Rattle.tally.specs.Tallies.{Tally, at_start}
 use Rattle.tally.specs.declared.refusal.Refusal.{Refusal}
@@ -10,7 +10,7 @@ use Rattle.tally.specs.declared.standing.Verdict.TheVariants.{Barred}
 use Rattle.tally.proofs.Opening.{barred_exactly, opened_exactly}
 use Rattle.tally.proofs.Reaching.{kept}
 
-module _ (o : Opening) (sound : Sound o) (t : Tally) (reached : Reached o t) where
+module _ (o : Opening) (sound : LawfulOpening o) (t : Tally) (reached : Reached o t) where
   barred_at_start : (e : Refusal) → opened o ≡ Err e → t ≡ at_start
   barred_at_start e barred =
       kept o sound (λ u. u ≡ at_start) (λ _ _ _ openable _ _. absurd (ok_no_err (sym ((opened_exactly o).1 openable) ∙ barred))) refl t reached

@@ -9,7 +9,7 @@ use Rattle.std.proofs.lemmas.Bool.{cases_lt}
 use Rattle.tally.specs.CallAnswers.{Reached}
 use Rattle.tally.specs.Calls.{Call, Closable, Takes, by_close, by_show, by_split}
 use Rattle.tally.specs.Laws.{NoRival}
-use Rattle.tally.specs.Openings.{Opening, Sound}
+use Rattle.tally.specs.Openings.{Opening, LawfulOpening}
 use Rattle.tally.specs.Tallies.{Branch, Tally, under}
 use Rattle.tally.proofs.Lists.{Among, among_cases, among_first, among_later, has_none}
 use Rattle.tally.proofs.Reaching.{kept}
@@ -32,7 +32,7 @@ module _ (o : Opening) where
   closing_covers b rest none covers s free below =
       ⊎_elim (λ keeps. absurd (none (record { set = s; keeps = keeps; below = below }))) (λ one. one) (among_cases (KeptAt s) b rest (covers s free below))
 
-  module _ (sound : Sound o) where
+  module _ (sound : LawfulOpening o) where
     covers_kept : (t : Tally) (c : Call) (u : Tally) → Takes o t c u → Covers t.branches → Covers u.branches
     covers_kept t c u (by_show h) covers = covers
     covers_kept t c u (by_split is deep many h) covers =

@@ -1,6 +1,7 @@
 -- What holds at the start and after every list of calls.
 use Rattle.std.proofs.Common.{arith}
-use Rattle.tally.specs.Laws.{AlwaysHolds}
+use Rattle.tally.specs.Laws.{SoundAfterAnyCalls}
+use Rattle.tally.specs.StandsAs.{ShownIn}
 use Rattle.tally.proofs.Barring.{barred_standing, passes_with_none_open}
 use Rattle.tally.proofs.Completing.{shown_least, shown_not_below}
 use Rattle.tally.proofs.Counting.{counts_agree}
@@ -9,14 +10,16 @@ use Rattle.tally.proofs.Limiting.{within_limits}
 use Rattle.tally.proofs.Naming.{bans_named}
 use Rattle.tally.proofs.Reaching.{filled}
 use Rattle.tally.proofs.Settling.{complete_from_least, least_from_complete, other_from_settled}
-use Rattle.tally.proofs.Showing.{shown_well}
+use Rattle.tally.proofs.Showing.{shown_exactly, shown_well}
+use Rattle.tally.proofs.Verdicts.{stands_exactly}
 use Rattle.tally.proofs.Taking.{call_exactly, refusal_exactly}
 
-pub always_holds : AlwaysHolds
-always_holds o sound t reached = record {
+pub sound_after_any_calls : SoundAfterAnyCalls
+sound_after_any_calls o sound t reached = record {
   taken_exactly = call_exactly o sound t (filled o sound t reached);
   refused_exactly = refusal_exactly o sound t (filled o sound t reached);
   barred_stands = barred_standing o sound t reached;
+  stands_exactly = stands_exactly o t (ShownIn t) (shown_exactly o sound t reached);
   counts_agree = counts_agree o sound t reached;
   limits = within_limits o sound t reached;
   bans_named = bans_named o sound t reached;

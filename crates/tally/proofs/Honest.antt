@@ -1,5 +1,6 @@
 -- An honest plan's splits and closings are due, its shows fit, and together they settle as least.
 use Rattle.std.proofs.Common.{◌≡◌, ℕ, zero, suc, ◌+◌, ◌<◌, ◌≤◌, eqb, List, [], ◌∷◌, ◌++◌, length, get_or, map, Some, All, Contains, unwrap_or, sym, refl, ap, ◌∙◌, subst, ⊎_elim, append_assoc, append-nil, arith}
+use Rattle.std.specs.List.{AllPairs}
 use Rattle.motion.specs.Listed.{place_at, steps}
 use Rattle.motion.specs.Routes.{Conflict}
 use Rattle.motion.specs.declared.ban.Ban.{Ban}
@@ -10,7 +11,7 @@ use Rattle.tally.specs.Calls.{Call, Showable}
 use Rattle.tally.specs.Laws.{HonestSucceeds}
 use Rattle.tally.specs.Openings.{Opening, carts}
 use Rattle.tally.specs.Tallies.{Branch, Shown, Tally, at_start, places_of, shown_of}
-use Rattle.tally.specs.Plans.{ClaimedRoutes, Distinct, shows_of}
+use Rattle.tally.specs.Plans.{ClaimedRoutes, shows_of}
 use Rattle.tally.specs.Trees.{Honest, Tree, calls_of, closes, depth, forks_in, splits}
 use Rattle.tally.proofs.Opening.{opened_exactly}
 use Rattle.tally.proofs.Sending.{Due, Leads, ToShow, close_due, none_due, none_left, sent, show_next, split_due}
@@ -54,7 +55,7 @@ module _ (o : Opening) (routes : ℕ → List ℕ) (claimed : ClaimedRoutes o ro
         (claimed.free a (get_or shown k d).cart there (own k d lt).0 (λ e. new k d lt (sym e)));
   }
 
-  to_show : (order : List ℕ) (shown : List Shown) → All AsPlanned shown → All (λ a. a < carts o) order → Distinct order → All (New shown) order
+  to_show : (order : List ℕ) (shown : List Shown) → All AsPlanned shown → All (λ a. a < carts o) order → AllPairs (λ a b. a ≡ b → ⊥) order → All (New shown) order
       → ToShow o shown (shows_of routes order) (shown ++ map planned order)
   to_show [] shown own there once new = subst (ToShow o shown []) (sym (append-nil shown)) none_left
   to_show (a ∷ order) shown own there once new =
@@ -62,8 +63,8 @@ module _ (o : Opening) (routes : ℕ → List ℕ) (claimed : ClaimedRoutes o ro
       let rest = All-tail (λ b. b < carts o) a order there in
       show_next (showable shown a own first (All-head (New shown) a order new))
       (subst (ToShow o _ _) (append_assoc shown (planned a ∷ []) (map planned order))
-      (to_show order (shown ++ (planned a ∷ [])) (All-push AsPlanned shown (planned a) own (first, refl)) rest once.1
-      (λ k d lt. All-push (λ s. s.cart ≡ get_or order k d → ⊥) shown (planned a) (All-tail (New shown) a order new k d lt) (once.0 k d lt))))
+      (to_show order (shown ++ (planned a ∷ [])) (All-push AsPlanned shown (planned a) own (first, refl)) rest (λ i j d before in_order. once (suc i) (suc j) d (omega arith) (omega arith))
+      (λ k d lt. All-push (λ s. s.cart ≡ get_or order k d → ⊥) shown (planned a) (All-tail (New shown) a order new k d lt) (once 0 (suc k) d (omega arith) (omega arith)))))
 
   same_found : (a b : ℕ) (shown : List Shown) → a ≡ b → places_of (planned a ∷ shown) b ≡ Some (routes b)
   same_found a b shown e = cond-true (eqb a b) (Some (routes a)) (places_of shown b) (eq-eqb a b e) ∙ ap (λ x. Some (routes x)) e

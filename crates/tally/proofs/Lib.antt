@@ -12,6 +12,9 @@ pub mod Covering
 pub mod Finding
 pub mod Showing
 pub mod Settling
+pub mod Passing
+pub mod Verdicts
+pub mod AllTaken
 pub mod Barring
 pub mod Completing
 pub mod Holding

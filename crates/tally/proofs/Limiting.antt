@@ -4,7 +4,7 @@ use Rattle.std.proofs.lemmas.List.Elements.{All-cons, All-nil}
 use Rattle.tally.specs.CallAnswers.{Reached}
 use Rattle.tally.specs.Calls.{Call, Takes, by_close, by_show, by_split}
 use Rattle.tally.specs.Laws.{WithinLimits}
-use Rattle.tally.specs.Openings.{Opening, Sound}
+use Rattle.tally.specs.Openings.{Opening, LawfulOpening}
 use Rattle.tally.specs.Tallies.{Branch, Tally}
 use Rattle.tally.proofs.Reaching.{kept}
 
@@ -35,7 +35,7 @@ stacked_bans : (bs : List Branch) → Stacked bs → All FewBans bs
 stacked_bans [] stack = All-nil FewBans
 stacked_bans (b ∷ rest) stack = All-cons FewBans b rest (stack.1, stack.2) (stacked_bans rest stack.3)
 
-pub within_limits : (o : Opening) → Sound o → (t : Tally) → Reached o t → WithinLimits t
+pub within_limits : (o : Opening) → LawfulOpening o → (t : Tally) → Reached o t → WithinLimits t
 within_limits o sound t reached =
     let limited = kept o sound Limited (λ v c u _. limited_kept o v c u) (omega arith, (omega arith, omega arith, refl, tt)) t reached in
     record { few_splits = limited.0; few_open = stacked_few t.branches limited.1; few_bans = stacked_bans t.branches limited.1 }

@@ -4,11 +4,11 @@ use Rattle.splits.specs.Rules.{Names}
 use Rattle.std.proofs.lemmas.List.Elements.{All-cons, All-head, All-nil, All-push, All-tail}
 use Rattle.tally.specs.CallAnswers.{Reached}
 use Rattle.tally.specs.Calls.{Call, Takes, by_close, by_show, by_split}
-use Rattle.tally.specs.Openings.{Opening, Sound}
+use Rattle.tally.specs.Openings.{Opening, LawfulOpening}
 use Rattle.tally.specs.Tallies.{Branch, Tally, under}
 use Rattle.tally.proofs.Reaching.{kept}
 
-module _ (o : Opening) (sound : Sound o) where
+module _ (o : Opening) (sound : LawfulOpening o) where
   abbrev NamedBans : Branch → Type 0
   NamedBans b = All (Names o.floor o.trips) b.bans
 

@@ -3,7 +3,7 @@ use Rattle.std.proofs.Common.{◌≡◌, ◌≤◌, List, [], ◌∷◌, ◌++�
 use Rattle.std.proofs.lemmas.List.Elements.{All-nil, All-push}
 use Rattle.tally.specs.CallAnswers.{Reached, after, after_all, called, tally_of}
 use Rattle.tally.specs.Calls.{Call, Takes, by_close, by_show, by_split}
-use Rattle.tally.specs.Openings.{Opening, Openable, Sound}
+use Rattle.tally.specs.Openings.{Opening, Openable, LawfulOpening}
 use Rattle.tally.specs.Tallies.{Shown, Tally, at_start}
 use Rattle.tally.specs.declared.refusal.Refusal.{Refusal}
 use Rattle.tally.proofs.Taking.{call_exactly}
@@ -28,7 +28,7 @@ filled_kept o t c u (by_show h) filled = All-push Filling t.shown _ filled h.rou
 filled_kept o t c u (by_split is deep many h) filled = filled
 filled_kept o t c u (by_close is none) filled = filled
 
-module _ (o : Opening) (sound : Sound o) (P : Tally → Type 0) (keeps : (t : Tally) (c : Call) (u : Tally) → Openable o → Takes o t c u → P t → P u) where
+module _ (o : Opening) (sound : LawfulOpening o) (P : Tally → Type 0) (keeps : (t : Tally) (c : Call) (u : Tally) → Openable o → Takes o t c u → P t → P u) where
   kept_after : (t : Tally) (c : Call) → Filled t.shown × P t → Filled (after o t c).shown × P (after o t c)
   kept_after t c h = by_answer (called o t c) refl
     where
@@ -43,5 +43,8 @@ module _ (o : Opening) (sound : Sound o) (P : Tally → Type 0) (keeps : (t : Ta
   pub kept : P at_start → (t : Tally) → Reached o t → P t
   kept begins t (cs, is) = subst P is (kept_after_all cs at_start (All-nil Filling, begins)).1
 
-pub filled : (o : Opening) → Sound o → (t : Tally) → Reached o t → Filled t.shown
+pub filled_after : (o : Opening) → LawfulOpening o → (t : Tally) (c : Call) → Filled t.shown → Filled (after o t c).shown
+filled_after o sound t c filled = (kept_after o sound (λ v. Filled v.shown) (λ v d u _. filled_kept o v d u) t c (filled, filled)).0
+
+pub filled : (o : Opening) → LawfulOpening o → (t : Tally) → Reached o t → Filled t.shown
 filled o sound = kept o sound (λ t. Filled t.shown) (λ t c u _. filled_kept o t c u) (All-nil Filling)

@@ -5,7 +5,7 @@ use Rattle.motion.specs.declared.ban.Ban.{Ban}
 use Rattle.std.proofs.lemmas.List.Elements.{All-cons, All-nil, All-push}
 use Rattle.tally.specs.CallAnswers.{after_all, answer_of, answers, called, tally_of}
 use Rattle.tally.specs.Calls.{Call, Closable, Gives, Showable, Takes, by_close, by_show, by_split, close, show, split}
-use Rattle.tally.specs.Openings.{Opening, Openable, Sound}
+use Rattle.tally.specs.Openings.{Opening, Openable, LawfulOpening}
 use Rattle.tally.specs.Tallies.{Branch, Shown, Tally, under}
 use Rattle.tally.specs.Plans.{Merged, none, from_left, from_right}
 use Rattle.tally.proofs.Taking.{call_exactly}
@@ -24,7 +24,7 @@ pub data ToShow (o : Opening) : List Shown → List Call → List Shown → Type
   show_next : {shown end : List Shown} {a : ℕ} {ps : List ℕ} {cs : List Call} → Showable o shown a ps → ToShow o (shown ++ (record { cart = a; places = ps } ∷ [])) cs end
       → ToShow o shown (show a ps ∷ cs) end
 
-module _ (o : Opening) (sound : Sound o) (openable : Openable o) where
+module _ (o : Opening) (sound : LawfulOpening o) (openable : Openable o) where
   -- all calls are taken, and lead to no open branch and these shown routes
   pub record Leads (t : Tally) (cs : List Call) (end : List Shown) : Type 0 where
     pub all_taken : All (λ r. r ≡ Ok tt) (answers o t cs)

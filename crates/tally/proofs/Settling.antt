@@ -29,8 +29,11 @@ module _ (o : Opening) (t : Tally) where
   own_card : settle o t o.card ≡ Ok (standing o t)
   own_card = cond-true (eqb o.card o.card) (Ok (standing o t)) (Err (record {})) (eq-eqb o.card o.card refl)
 
-  shown_by_all : unshown o t ≡ 0 → (a : ℕ) → a < carts o → (ps : List ℕ) × (shown_of t a ≡ Some ps)
+  pub shown_by_all : unshown o t ≡ 0 → (a : ℕ) → a < carts o → (ps : List ℕ) × (shown_of t a ≡ Some ps)
   shown_by_all none a lt = let here = none_of_total _ (carts o) none a lt in (decides_shown a t.shown).0 (grind (arith, nat_tests))
+
+  pub none_missing : ((a : ℕ) → a < carts o → (ps : List ℕ) × (shown_of t a ≡ Some ps)) → unshown o t ≡ 0
+  none_missing all_shown = total_none _ (carts o) (λ a lt. cond-true (is_shown t.shown a) 0 1 ((decides_shown a t.shown).1 (all_shown a lt)))
 
   -- a settlement of another sum: no branch is open, every cart has a route, and they sum to that, which is not the claim
   pub record Other (s : ℕ) : Type 0 where
@@ -56,7 +59,7 @@ module _ (o : Opening) (t : Tally) where
   pub least_from_complete : opened o ≡ Ok tt → Complete o t → SettlesLeast o t
   least_from_complete passes complete =
       let none_open : length t.branches ≡ 0 = ap length complete.none_open in
-      let none-missing : unshown o t ≡ 0 = total_none _ (carts o) (λ a lt. cond-true (is_shown t.shown a) 0 1 ((decides_shown a t.shown).1 (complete.all_shown a lt))) in
+      let none-missing : unshown o t ≡ 0 = none_missing complete.all_shown in
       let sums : shown_sum o t ≡ o.claim = complete.sums in
       let least : verdict_of (opened o) (length t.branches) (unshown o t) (shown_sum o t) o.claim ≡ Least o.claim = cc (least_verdict o.claim) in
       subst⁻¹ (λ s. Says s (Least o.claim)) own_card least

@@ -1,13 +1,16 @@
 -- The shown routes are routes, and no two of different carts conflict.
-use Rattle.std.proofs.Common.{◌≡◌, List, All, Contains, sym, subst, ⊎_elim}
+use Rattle.std.proofs.Common.{◌≡◌, ℕ, arith, ◌↔◌, List, Some, All, Contains, sym, subst, ⊎_elim}
 use Rattle.motion.specs.Listed.{place_at}
 use Rattle.motion.specs.Routes.{Conflict}
 use Rattle.motion.proofs.Conflicting.{conflict_sym}
 use Rattle.std.proofs.lemmas.List.Elements.{All-contains, All-nil, All-push, Contains-push_cases}
 use Rattle.tally.specs.CallAnswers.{Reached}
 use Rattle.tally.specs.Calls.{Call, Takes, by_close, by_show, by_split}
-use Rattle.tally.specs.Openings.{Opening, RouteOf, Sound}
-use Rattle.tally.specs.Tallies.{Shown, Tally}
+use Rattle.tally.specs.Openings.{Opening, RouteOf, LawfulOpening}
+use Rattle.tally.specs.StandsAs.{ShownIn}
+use Rattle.tally.specs.Tallies.{Shown, Tally, shown_of}
+use Rattle.std.proofs.lemmas.List.Quantifiers.{all_pairs_push}
+use Rattle.tally.proofs.Finding.{OnceShown, found_exactly}
 use Rattle.tally.proofs.Lists.{has_none}
 use Rattle.tally.proofs.Reaching.{kept}
 
@@ -37,5 +40,14 @@ module _ (o : Opening) where
   well_kept t c u (by_split is deep many h) well = well
   well_kept t c u (by_close is none) well = well
 
-  pub shown_well : Sound o → (t : Tally) → Reached o t → ShownWell t.shown
+  pub shown_well : LawfulOpening o → (t : Tally) → Reached o t → ShownWell t.shown
   shown_well sound = kept o sound (λ t. ShownWell t.shown) (λ t c u _. well_kept t c u) (record { are_routes = All-nil (λ s. RouteOf o s.cart s.places); free = λ s u has. absurd (has_none s has) })
+
+once_kept : (o : Opening) (t : Tally) (c : Call) (u : Tally) → Takes o t c u → OnceShown t.shown → OnceShown u.shown
+once_kept o t c u (by_show h) once = all_pairs_push (λ s v. s.cart ≡ v.cart → ⊥) t.shown _ once h.new
+once_kept o t c u (by_split is deep many h) once = once
+once_kept o t c u (by_close is none) once = once
+
+pub shown_exactly : (o : Opening) → LawfulOpening o → (t : Tally) → Reached o t → (a : ℕ) (ps : List ℕ) → (shown_of t a ≡ Some ps) ↔ ShownIn t a ps
+shown_exactly o sound t reached a =
+    found_exactly a t.shown (kept o sound (λ v. OnceShown v.shown) (λ v c u _. once_kept o v c u) (λ i j d before within. absurd (omega arith)) t reached)

@@ -15,7 +15,7 @@ use Rattle.std.proofs.lemmas.Bool.Decides.{Decides-or}
 use Rattle.tally.specs.CallAnswers.{called, closing, current, operands, showing, splitting, tested}
 use Rattle.tally.specs.CallRefusals.{CloseFails, Fails, RefusedBy, ShowFails, SplitFails, by_call, by_opening, by_rule, cheaper_set, full, has_route, in_conflict as conflicts, no_route, none_open, off_floor, operands_cut, unknown_cart, unknown_letter}
 use Rattle.tally.specs.Calls.{Call, Closable, Gives, Routeless, Showable, Takes, by_close, by_show, by_split, close, show, split}
-use Rattle.tally.specs.Openings.{Opening, Openable, RouteOf, Sound, carts, opened}
+use Rattle.tally.specs.Openings.{Opening, Openable, RouteOf, LawfulOpening, carts, opened}
 use Rattle.tally.specs.Refusals.{from_route, from_rule}
 use Rattle.tally.specs.Tallies.{Branch, Tally, is_shown, with_closing, with_route, with_split}
 use Rattle.tally.specs.declared.refusal.Refusal.{Refusal}
@@ -26,7 +26,7 @@ use Rattle.tally.proofs.Telling.{Filled, decides_free, decides_routeless, places
 
 -- ---- from what is taken or fails to the answer
 
-module _ (o : Opening) (sound : Sound o) (t : Tally) where
+module _ (o : Opening) (sound : LawfulOpening o) (t : Tally) where
   module _ (filled : Filled t.shown) (a : ℕ) (ps : List ℕ) where
     -- the chain behind each test that passes
     free_answer : Result Tally Refusal

@@ -19,7 +19,7 @@ use Rattle.std.proofs.lemmas.Bool.Decides.{Decides-eqb, Decides-like, Decides-or
 use Rattle.tally.specs.CallAnswers.{closing, current, operands, showing, splitting, tested}
 use Rattle.tally.specs.CallRefusals.{CloseFails, Fails, ShowFails, SplitFails, by_rule, cheaper_set, full, has_route, in_conflict as conflicts, no_route, none_open, off_floor, operands_cut, unknown_cart, unknown_letter}
 use Rattle.tally.specs.Calls.{Call, FreeOf, Routeless, Takes, by_close, by_show, by_split, close, show, split}
-use Rattle.tally.specs.Openings.{Opening, Sound, carts}
+use Rattle.tally.specs.Openings.{Opening, LawfulOpening, carts}
 use Rattle.tally.specs.Refusals.{from_route, from_rule}
 use Rattle.tally.specs.Tallies.{Branch, Shown, Tally, is_shown, with_closing, with_route, with_split}
 use Rattle.tally.specs.declared.refusal.Refusal.{Refusal}
@@ -105,7 +105,7 @@ module _ (o : Opening) (t : Tally) (letter : ℕ) (bytes : List ℕ) where
   unfolding splitting
   split_tells = split_tells_of _ refl
 
-module _ (o : Opening) (sound : Sound o) (t : Tally) where
+module _ (o : Opening) (sound : LawfulOpening o) (t : Tally) where
   close_tells_of : (bs : List Branch) → t.branches ≡ bs
       → MatchResult (current bs >>= λ first. (refuse (cheaper o.floor o.trips first.0.bans o.claim) CheaperSet >> Ok (with_closing t first.1))) (Takes o t close) (CloseFails o t)
   close_tells_of [] is = none_open is

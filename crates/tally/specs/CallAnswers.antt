@@ -4,6 +4,7 @@ use Rattle.floor.specs.Checks.{refuse, ◌>>=◌, ◌>>◌}
 use Rattle.floor.specs.Tests.{some}
 use Rattle.motion.specs.Listed.{in_conflict, route_check}
 use Rattle.motion.specs.Routes.{start_of, target_of}
+use Rattle.motion.specs.declared.ban.Ban.{Ban}
 use Rattle.search.specs.Least.{cheaper}
 use Rattle.std.specs.Result.{result_map_both}
 use Rattle.tally.specs.Calls.{Call, show, split, close}
@@ -19,6 +20,15 @@ use Rattle.tally.specs.declared.refusal.Refusal.TheVariants.{NoCart, Shown, InCo
 abbrev pub current : List Branch → Result (Branch × List Branch) Refusal
 current [] = Err NothingOpen
 current (b ∷ rest) = Ok (b, rest)
+
+-- the bans of the current branch: none where no branch is open, or the check is barred
+abbrev pub current_bans : Opening → Tally → Option (List Ban)
+current_bans o t = in_force (opened o) t.branches
+  where
+    in_force : Result (Unit {0}) Refusal → List Branch → Option (List Ban)
+    in_force (Err e) branches = None
+    in_force (Ok x) [] = None
+    in_force (Ok x) (b ∷ rest) = Some b.bans
 
 -- the bytes that the width names
 abbrev pub operands : List ℕ → Option ℕ → Result (List ℕ) Refusal

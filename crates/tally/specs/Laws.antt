@@ -7,11 +7,14 @@ use Rattle.splits.specs.Rules.{Names}
 use Rattle.tally.specs.CallAnswers.{Reached, after_all, answers, called}
 use Rattle.tally.specs.CallRefusals.{RefusedBy}
 use Rattle.tally.specs.Calls.{Call, Takes}
-use Rattle.tally.specs.Openings.{BarredBy, Opening, Openable, Opens, Sound, carts, opened}
+use Rattle.tally.specs.Counts.{CountsTaken}
+use Rattle.tally.specs.Openings.{BarredBy, LawfulOpening, Opening, Openable, Opens, carts, opened}
 use Rattle.tally.specs.Plans.{CallsOf, HonestPlan}
 use Rattle.tally.specs.Standings.{Says, places_shown, settle, shown_sum, standing}
+use Rattle.tally.specs.StandsAs.{ShownIn, StandsAs}
 use Rattle.tally.specs.Tallies.{Branch, Tally, at_start, shown_of}
 use Rattle.tally.specs.declared.refusal.Refusal.{Refusal}
+use Rattle.tally.specs.declared.standing.Verdict.{Verdict}
 use Rattle.tally.specs.declared.standing.Verdict.TheVariants.{Barred, Least, OtherSum}
 
 abbrev pub OpeningTells : Type 0
@@ -45,15 +48,17 @@ pub record WithinLimits (t : Tally) : Type 0 where
   -- no branch lies under more than 64 splits, and each of them gave it a ban
   pub few_bans : All (λ b. (b.depth ≤ 64) × (length b.bans ≡ b.depth)) t.branches
 
-pub record Holds (o : Opening) (t : Tally) : Type 0 where
+pub record SoundTally (o : Opening) (t : Tally) : Type 0 where
   -- a call gives a tally exactly when it is taken on a check that is not barred, and the tally that it leads to
   pub taken_exactly : (c : Call) (u : Tally) → (called o t c ≡ Ok u) ↔ Openable o × Takes o t c u
   -- and is refused exactly for what bars the check, or else for the first of its conditions that fails
   pub refused_exactly : (c : Call) (e : Refusal) → (called o t c ≡ Err e) ↔ RefusedBy o t c e
   -- a barred check stands as it started
   pub barred_stands : (e : Refusal) → BarredBy o e → standing o t ≡ record { branches = 1; splits = 0; closings = 0; verdict = Barred e }
-  -- the open branches and the closings taken are one more than the splits taken
-  pub counts_agree : length t.branches + t.closings ≡ t.splits + 1
+  -- a verdict stands exactly when its conditions hold
+  pub stands_exactly : (v : Verdict) → ((standing o t).verdict ≡ v) ↔ StandsAs o (length t.branches) (ShownIn t) v
+  -- the open branches and the closings are one more than the splits
+  pub counts_agree : let s = standing o t in s.branches + s.closings ≡ s.splits + 1
   pub limits : WithinLimits t
   -- bans speak of carts and places that are there
   pub bans_named : All (λ b. All (Names o.floor o.trips) b.bans) t.branches
@@ -66,8 +71,12 @@ pub record Holds (o : Opening) (t : Tally) : Type 0 where
   pub other_sum_is_above : (s : ℕ) → Says (settle o t o.card) (OtherSum s) → o.claim < s
 
 -- at the start and after every list of calls
-abbrev pub AlwaysHolds : Type 0
-AlwaysHolds = (o : Opening) → Sound o → (t : Tally) → Reached o t → Holds o t
+abbrev pub SoundAfterAnyCalls : Type 0
+SoundAfterAnyCalls = (o : Opening) → LawfulOpening o → (t : Tally) → Reached o t → SoundTally o t
+
+-- the splits and closings that a standing tells are those taken
+abbrev pub CountsAfterAnyCalls : Type 0
+CountsAfterAnyCalls = (o : Opening) → LawfulOpening o → (calls : List Call) → CountsTaken o calls
 
 -- each call is taken, and the settlement says least
 pub record Succeeds (o : Opening) (calls : List Call) : Type 0 where
@@ -75,4 +84,4 @@ pub record Succeeds (o : Opening) (calls : List Call) : Type 0 where
   pub settles_least : SettlesLeast o (after_all o at_start calls)
 
 abbrev pub HonestSucceeds : Type 0
-HonestSucceeds = (o : Opening) → Sound o → Openable o → (plan : HonestPlan o) → (calls : List Call) → CallsOf plan calls → Succeeds o calls
+HonestSucceeds = (o : Opening) → LawfulOpening o → Openable o → (plan : HonestPlan o) → (calls : List Call) → CallsOf plan calls → Succeeds o calls

@@ -5,6 +5,8 @@ pub mod Calls
 pub mod CallRefusals
 pub mod CallAnswers
 pub mod Standings
+pub mod StandsAs
+pub mod Counts
 pub mod Trees
 pub mod Plans
 pub mod Laws

@@ -25,7 +25,7 @@ abbrev pub RouteOf : Opening → ℕ → List ℕ → Type 0
 RouteOf o a ps = ListedRoute o.floor (start_of o.trips a) (target_of o.trips a) ps
 
 -- the floor and the rules keep their laws
-pub record Sound (o : Opening) : Type 0 where
+pub record LawfulOpening (o : Opening) : Type 0 where
   pub floor : Lawful o.floor
   pub rules : LawfulRules o.rules
 

@@ -1,5 +1,6 @@
 -- Honest plans: an honest tree with routes that sum to the claim, and the calls that they come to.
 use Rattle.std.specs.Prelude.{◌≡◌, ℕ, ◌<◌, ◌≤◌, List, [], ◌∷◌, map, All, Contains, ◌≢◌}
+use Rattle.std.specs.List.{AllPairs}
 use Rattle.motion.specs.Listed.{place_at, steps}
 use Rattle.motion.specs.Routes.{Conflict, total}
 use Rattle.tally.specs.Calls.{Call, show}
@@ -12,15 +13,10 @@ pub record ClaimedRoutes (o : Opening) (routes : ℕ → List ℕ) : Type 0 wher
   pub free : (a b : ℕ) → a < carts o → b < carts o → (a ≢ b) → Conflict (place_at (routes a)) (place_at (routes b)) → ⊥
   pub sum : total (carts o) (λ a. steps (routes a)) ≡ o.claim
 
--- no number twice
-abbrev pub Distinct : List ℕ → Type 0
-Distinct [] = Unit {0}
-Distinct (x ∷ xs) = All (λ y. x ≢ y) xs × Distinct xs
-
 -- each number below n once, and no other
 pub record EachOnce (n : ℕ) (order : List ℕ) : Type 0 where
   pub below : All (λ a. a < n) order
-  pub once : Distinct order
+  pub once : AllPairs (λ a b. a ≢ b) order
   pub every : (a : ℕ) → a < n → Contains order a
 
 abbrev pub shows_of : (ℕ → List ℕ) → List ℕ → List Call

@@ -22,22 +22,18 @@ pub enum Verdict {
 }
 
 impl Verdict {
-    // The first that fits, of the five things that `verdict_of` speaks of.
-    pub fn of(
-        opened: Result<(), Refusal>,
-        branches: usize,
-        unshown: usize,
-        sum: usize,
-        claim: usize,
-    ) -> Verdict
-        ensures { result ≡ verdict_of opened branches unshown sum claim }
+    // The first that fits, on a check that is not barred.
+    pub fn of(branches: usize, unshown: usize, sum: usize, claim: usize) -> Verdict
+        ensures { result ≡ verdict_of (Ok tt) branches unshown sum claim }
     {
-        match opened {
-            Err(refusal) => Verdict::Barred(refusal),
-            Ok(()) if branches > 0 => Verdict::Open(branches),
-            Ok(()) if unshown > 0 => Verdict::Unshown(unshown),
-            Ok(()) if sum == claim => Verdict::Least(claim),
-            Ok(()) => Verdict::OtherSum(sum),
+        if branches > 0 {
+            Verdict::Open(branches)
+        } else if unshown > 0 {
+            Verdict::Unshown(unshown)
+        } else if sum == claim {
+            Verdict::Least(claim)
+        } else {
+            Verdict::OtherSum(sum)
         }
     }
 }

@@ -3,6 +3,8 @@ ghost use Rattle.checking.specs.Books.{tally_in};
 ghost use Rattle.checking.specs.CallsMade.{meant};
 ghost use Rattle.checking.specs.Checks.{opening_of, Answers, IsCurrent, RefusesBranches};
 ghost use Rattle.floor.specs.Numbers.{numbers};
+ghost use Rattle.std.specs.Option.{option_copied};
+ghost use Rattle.tally.specs.CallAnswers.{current_bans};
 ghost use Rattle.tally.specs.Calls.{show, split, close};
 ghost use Rattle.tally.specs.Standings.{settle, standing};
 ghost use Rattle.tally.specs.Tallies.{at_start};
@@ -13,7 +15,7 @@ use crate::check::{Card, Check};
 use crate::sums::{shown_sum, unshown};
 use crate::terms::Terms;
 use floor::{Cart, FloorMap, Place};
-use motion::check_route;
+use motion::{Ban, check_route};
 use search::{Branch, Workspace};
 use splits::SplitRule;
 use tally::{Foreign, Refusal, Settlement, Standing, Verdict};
@@ -46,6 +48,14 @@ impl<'a, M: FloorMap, R: SplitRule> Check<'a, M, R> {
         }
         self.book.show(cart, places);
         Ok(())
+    }
+
+    // The bans of the current branch: none where no branch is open, or the check is barred.
+    pub fn current_bans(&self) -> Option<&[Ban]>
+        ensures { option_copied result ≡ current_bans (opening_of M.FloorMap.floor R.SplitRule.rules self.now.terms) (tally_in self.now.book) }
+    {
+        self.terms.opened().ok()?;
+        self.book.branches.current()
     }
 
     // The current branch, if the check may be opened and a branch is open.
@@ -138,7 +148,6 @@ impl<'a, M: FloorMap, R: SplitRule> Check<'a, M, R> {
             return Verdict::Barred(refusal);
         }
         Verdict::of(
-            Ok(()),
             self.book.branches.count(),
             unshown(&self.book.routes, self.terms.trips.len()),
             shown_sum(&self.book.routes, self.terms.trips.len()),

@@ -7,7 +7,7 @@ use Rattle.std.proofs.lemmas.Iterator.{YieldsList-from_map, YieldsList-from_rang
 use Rattle.std.proofs.lemmas.List.FromFn.{length-range_with_len}
 use Rattle.tally.specs.Tallies.{places_of}
 use Rattle.checking.specs.ShownRoutes.{shown_in}
-use Rattle.checking.proofs.Totals.{sum_below}
+use Rattle.tally.proofs.Totals.{sum_below}
 use Rattle.checking.proofs.sums.shown_sum.Goals as goal
 
 pub sum-requires-clause-fits : goal.sum-requires-clause-fits

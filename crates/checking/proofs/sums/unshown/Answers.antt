@@ -4,7 +4,7 @@ use Rattle.std.proofs.lemmas.Iterator.Consumers.{YieldsList-at, YieldsList-from_
 use Rattle.std.proofs.lemmas.Iterator.{YieldsList-from_range}
 use Rattle.tally.specs.Tallies.{is_shown}
 use Rattle.checking.specs.ShownRoutes.{shown_in}
-use Rattle.checking.proofs.Totals.{count_below}
+use Rattle.tally.proofs.Totals.{count_below}
 use Rattle.checking.proofs.sums.unshown.Goals as goal
 
 pub returns : goal.returns
