@@ -2,7 +2,7 @@ use Rattle.std.proofs.Common.{rules, ◌/◌, ◌^◌, length, ap, ◌∙◌, ar
 use Rattle.std.proofs.lemmas.Iterator.{YieldsList-from_map, YieldsList-from_range}
 use Rattle.std.proofs.lemmas.Iterator.Consumers.{sum_from_yields_List, fits_from_yields_list}
 use Rattle.search.proofs.Sums.{total_most}
-use Rattle.checking.proofs.Totals.{sum_below}
+use Rattle.tally.proofs.Totals.{sum_below}
 use Rattle.halls.proofs.survey.connections.Goals as goal
 
 pub sum-ends-requires-clause-fits : goal.sum-ends-requires-clause-fits
