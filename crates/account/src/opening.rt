@@ -1,4 +1,6 @@
 // What a plan begins with.
+use crate::answers::tell_refused;
+use crate::bars::Bar;
 use motion::Trip;
 use plan::{Fault, Heading, PlanRefusal};
 use std::io;
@@ -24,12 +26,22 @@ pub fn tell_heading(rt: &HostRuntime, bytes: &[u8], end: usize) -> io::Result<()
             Some([b'C', a, b, c, d]) if offset < end => {
                 let start = u16::from_be_bytes([*a, *b]);
                 let target = u16::from_be_bytes([*c, *d]);
-                println!(rt; "  {offset}: cart {cart} from {start} to {target}")?;
+                println!(rt; "      {offset}: cart {cart} from {start} to {target}")?;
             }
             _ => return Ok(()),
         }
     }
     Ok(())
+}
+
+// Why the heading is not read: its number of carts, which the opening is refused for, or a fault of the file.
+pub fn tell_heading_fault(rt: &HostRuntime, bytes: &[u8], fault: Fault) -> io::Result<()> {
+    match (fault.refusal, bytes) {
+        (PlanRefusal::Call(refusal), [_, _, _, carts, ..]) => {
+            tell_refused(rt, refusal, Some(Bar::Carts(*carts)))
+        }
+        _ => tell_fault(rt, fault),
+    }
 }
 
 // A fault at its offset, with its number and its word.

@@ -36,7 +36,7 @@ pub fn tell_grid_letters(rt: &HostRuntime, map: &AnyMap) -> anyhow::Result<()> {
 fn tell_letters(
     rt: &HostRuntime,
     map: &AnyMap,
-    trips: &[Trip],
+    trips: &[Trip; 2],
     splits: &[(u8, &[u8])],
 ) -> anyhow::Result<()> {
     let mut work = Workspace::new(rt.alloc())?;

@@ -84,10 +84,10 @@ impl Display for Ban {
                 f,
                 "cart {cart} not from {from} to {to} at ticks {first} to {last}"
             ),
-            Ban::Late { cart, tick } => write!(f, "cart {cart} not home by tick {tick}"),
+            Ban::Late { cart, tick } => write!(f, "cart {cart} with a length of more than {tick}"),
             Ban::By { cart, tick } => write!(
                 f,
-                "cart {cart} home by tick {tick}, and no other at its target from then on"
+                "cart {cart} with a length of at most {tick}, and no other cart at its target from tick {tick} on"
             ),
         }
     }
