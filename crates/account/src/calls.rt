@@ -9,11 +9,10 @@ use crate::shows::tell_show;
 use crate::splitting::tell_split;
 use checking::{Check, Terms, open};
 use floor::FloorMap;
-use plan::{Command, Commands, Fault, FileRefusal, Heading, PlanRefusal};
+use plan::{Command, Commands, Heading};
 use search::Workspace;
 use splits::{OwnRules, own_rules};
-use std::io;
-use tally::{Standing, Verdict};
+use tally::Verdict;
 
 // Opens a check on the plan's claim, tells its calls, and settles it; `last` is the offset of the file's last byte.
 pub fn tell_check<M: FloorMap>(
@@ -36,57 +35,45 @@ pub fn tell_check<M: FloorMap>(
     let told = tell_calls(rt, work, &mut check, &mut scene, heading.commands(&rules));
     // before `?`, as a check may not be let go
     let settlement = check.settle(card);
-    match told? {
-        End::Refused => {}
-        End::Faulty(fault) => {
-            if fault.refusal == PlanRefusal::File(FileRefusal::Trailing) {
-                tell_settlement(rt, fault.offset.saturating_sub(1), settlement?)?;
-            }
-            tell_fault(rt, fault)?;
-        }
-        End::Settled => tell_settlement(rt, last, settlement?)?,
+    if told? {
+        println!(rt; "  {last}: settle")?;
+        tell_standing(rt, settlement?)?;
     }
     Ok(())
 }
 
-// What the calls of a plan end with.
-#[derive(Clone, Copy)]
-enum End {
-    // the opening, or a call
-    Refused,
-    Faulty(Fault),
-    Settled,
-}
-
-// The opening's answer, and the calls.
+// The opening's answer, and the calls up to the first fault: whether there was none.
 fn tell_calls<'a, M: FloorMap>(
     rt: &HostRuntime,
     work: &mut Workspace,
     check: &mut Check<'_, M, OwnRules>,
     scene: &mut Scene<'a, M>,
     commands: Commands<'a, OwnRules>,
-) -> anyhow::Result<End> {
+) -> anyhow::Result<bool> {
     let standing = check.standing();
     if let Verdict::Barred(refusal) = standing.verdict {
         tell_refused(rt, refusal, bar_of(scene.map, scene.claim, scene.trips))?;
         tell_standing(rt, standing)?;
-        return Ok(End::Refused);
+        return Ok(false);
     }
     tell_taken(rt)?;
     tell_standing(rt, standing)?;
     for command in commands {
         let (offset, command) = match command {
             Ok(command) => command,
-            Err(fault) => return Ok(End::Faulty(fault)),
+            Err(fault) => {
+                tell_fault(rt, fault)?;
+                return Ok(false);
+            }
         };
         print!(rt; "  {offset}: ")?;
         let answer = tell_command(rt, work, check, scene, command)?;
         tell_standing(rt, check.standing())?;
         if answer.is_err() {
-            return Ok(End::Refused);
+            return Ok(false);
         }
     }
-    Ok(End::Settled)
+    Ok(true)
 }
 
 // A command and its answer.
@@ -102,10 +89,4 @@ fn tell_command<'a, M: FloorMap>(
         Command::Split { letter, behind } => tell_split(rt, work, check, scene, letter, behind),
         Command::Close => tell_close(rt, work, check, scene),
     }
-}
-
-// The `Z` at an offset.
-fn tell_settlement(rt: &HostRuntime, offset: usize, standing: Standing) -> io::Result<()> {
-    println!(rt; "  {offset}: settle")?;
-    tell_standing(rt, standing)
 }

@@ -21,7 +21,7 @@ use Rattle.plan.specs.declared.fault.PlanRefusal.{PlanRefusal}
 use Rattle.plan.proofs.CallsFind.{Taken}
 use Rattle.plan.proofs.Pairs.{length_written, words_written}
 use Rattle.plan.proofs.Passing.{read_fault, read_on}
-use Rattle.tally.specs.CallAnswers.{after, after_all, answer, answer_of, called, current, operands as operands_of, splitting as by_split, tally_of}
+use Rattle.tally.specs.CallAnswers.{after, after_all, answer, answer_of, called, current, operand_bytes, splitting as by_split, tally_of}
 use Rattle.tally.specs.CallRefusals.{RefusedBy}
 use Rattle.tally.specs.Calls.{Call, show, split, close}
 use Rattle.tally.specs.Openings.{Opening, opened}
@@ -98,8 +98,8 @@ module _ (o : Opening) (t : Tally) (letter : ℕ) where
       → called o t (split letter said) ≡ called o t (split letter (ops ++ left))
   unfolding split_by by_split
   called_same said ops left own whole is =
-      let here : operands_of said (o.rules.width letter said) ≡ Ok ops = ap (operands_of said) own ∙ ap Ok whole in
-      let there : operands_of (ops ++ left) (o.rules.width letter (ops ++ left)) ≡ Ok ops = ap (operands_of (ops ++ left)) is ∙ ap Ok (take-append_seam ops left) in
+      let here : operand_bytes said (o.rules.width letter said) ≡ Ok ops = ap (operand_bytes said) own ∙ ap Ok whole in
+      let there : operand_bytes (ops ++ left) (o.rules.width letter (ops ++ left)) ≡ Ok ops = ap (operand_bytes (ops ++ left)) is ∙ ap Ok (take-append_seam ops left) in
       ap (λ x. opened o >> split_by x) (here ∙ sym there)
 
 -- ---- the first of some calls, as it stands in the bytes
