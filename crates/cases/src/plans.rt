@@ -1,5 +1,8 @@
 // Whole plans on the small floor, by the line that is printed of them.
-use report::{Memory, check_files};
+use crate::worked::settle_small_floor;
+use report::{Fault, Memory, check_files};
+use std::io;
+use tally::Standing;
 
 // The small floor's map file.
 const MAP: [u8; 23] = [
@@ -16,8 +19,8 @@ const ROUTES: [u8; 22] = [
 
 pub fn run(rt: &HostRuntime) -> anyhow::Result<()> {
     let memory = &mut Memory::new(rt.alloc())?;
-    let cases: [(&str, &[u8]); 5] = [
-        ("the small floor's plan", b"T\x01\x00\x02XXZ"),
+    tell_outcome(rt, "the small floor's plan", settle_small_floor(memory))?;
+    let cases: [(&str, &[u8]); 4] = [
         ("split by tick 1", b"T\x01\x00\x01XXZ"),
         ("not split", b"XXZ"),
         ("closed once", b"T\x01\x00\x02XZ"),
@@ -61,9 +64,12 @@ fn tell_plan(
     for part in parts {
         plan.extend_from_slice(part)?;
     }
-    match check_files(memory, &MAP, &plan) {
-        Ok(standing) => println!(rt; "{what}: {}", standing.verdict)?,
-        Err(fault) => println!(rt; "{what}: {fault}")?,
+    Ok(tell_outcome(rt, what, check_files(memory, &MAP, &plan))?)
+}
+
+fn tell_outcome(rt: &HostRuntime, what: &str, outcome: Result<Standing, Fault>) -> io::Result<()> {
+    match outcome {
+        Ok(standing) => println!(rt; "{what}: {}", standing.verdict),
+        Err(fault) => println!(rt; "{what}: {fault}"),
     }
-    Ok(())
 }

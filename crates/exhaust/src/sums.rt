@@ -99,7 +99,11 @@ fn sum_in(table: &[u16], i: usize) -> u16 {
     table.get(i).copied().unwrap_or(NONE)
 }
 
-fn at_targets(heap: Global, stands: &[Arrangement], targets: &[Place]) -> Result<Vec<u8>, AllocError> {
+fn at_targets(
+    heap: Global,
+    stands: &[Arrangement],
+    targets: &[Place],
+) -> Result<Vec<u8>, AllocError> {
     let mut at_targets = Vec::new(heap);
     for places in stands {
         at_targets.push(carts_at(places, targets))?;
