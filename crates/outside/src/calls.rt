@@ -3,7 +3,8 @@
 // Cart 0 goes from 0 to 3, and cart 1 from its bay at 4 to 2. Each by itself needs 3 ticks and 1, and then cart 0 goes
 // through 2 at tick 2, where cart 1 rests. So cart 1 waits until cart 0 has passed, and the sum is 3 + 3.
 //
-// S tells apart whether cart 1 goes home at once, and each case needs another letter of ours:
+// S loses no set of routes, with conflicts or without, so by itself it raises no sum. It tells apart whether cart 1 goes
+// home at once, and each case needs another letter of ours:
 // - left, it is not at 2 at tick 1, so its length is 2 or more. V at 2 at tick 2: without cart 0 there the sum is 4 + 2,
 //   and without cart 1 there it is 3 + 3.
 // - right, it is not in its bay at tick 1. T at tick 1: if its length is more than 1, it has been at 2 at tick 1, has left
