@@ -9,8 +9,13 @@ mod row;
 mod rows;
 mod single;
 
+ghost use Rattle.std.specs.Prelude.{◌≡◌};
+ghost use Rattle.outside.specs.Single.{single_rules};
+ghost use Rattle.splits.specs.Beside.{beside};
+ghost use Rattle.splits.specs.Own.{own};
+
 use single::{Single, single_rule};
-use splits::{Beside, OwnRules, own_rules};
+use splits::{Beside, OwnRules, SplitRule, own_rules};
 
 fn main(rt: HostRuntime) -> anyhow::Result<()> {
     run(&rt)
@@ -24,7 +29,9 @@ fn run(rt: &HostRuntime) -> anyhow::Result<()> {
 }
 
 // Our own letters, and S.
-fn rules() -> Beside<OwnRules, Single> {
+fn rules() -> Beside<OwnRules, Single>
+    ensures { ⟦<Beside<OwnRules, Single> as SplitRule>⟧.rules result ≡ beside own single_rules }
+{
     Beside {
         first: own_rules(),
         second: single_rule(),
