@@ -1,2 +1,4 @@
 pub mod Single
 pub mod SingleLemmas
+pub mod Row
+pub mod RowLemmas

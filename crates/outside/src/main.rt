@@ -1,59 +1,39 @@
-// A split rule written outside the crate of the interface, side by side with our own letters.
+// A split rule and a kind of map, both written outside the crates of their interfaces, in whole checks and whole plans
+// beside our own.
 #![tactic(auto)]
 
+mod calls;
+mod letters;
+mod plans;
+mod row;
+mod rows;
 mod single;
 
-use floor::FloorMap;
-use maps::ListMap;
-use samples::{line, trip};
-use search::{Branch, Workspace};
-use single::single_rule;
-use splits::{Beside, SplitRule, own_rules};
-use std::io;
+ghost use Rattle.std.specs.Prelude.{◌≡◌};
+ghost use Rattle.outside.specs.Single.{single_rules};
+ghost use Rattle.splits.specs.Beside.{beside};
+ghost use Rattle.splits.specs.Own.{own};
+
+use single::{Single, single_rule};
+use splits::{Beside, OwnRules, SplitRule, own_rules};
 
 fn main(rt: HostRuntime) -> anyhow::Result<()> {
     run(&rt)
 }
 
 fn run(rt: &HostRuntime) -> anyhow::Result<()> {
-    let mut work = Workspace::new(rt.alloc())?;
-    let map = line(ListMap::with_room(rt.alloc())?, 2, &[])?;
-    let trips = [trip(0, 1), trip(1, 0)];
-    let branch = Branch {
-        map: &map,
-        trips: &trips,
-        bans: &[],
-    };
-    let rules = Beside {
-        first: own_rules(),
-        second: single_rule(),
-    };
-    tell(rt, &mut work, &branch, &rules, b'V', &[0, 1, 0, 1, 0, 3])?;
-    tell(rt, &mut work, &branch, &rules, b'S', &[1, 1, 3])?;
-    tell(rt, &mut work, &branch, &rules, b'S', &[1, 0, 3])?;
-    tell(rt, &mut work, &branch, &rules, b'S', &[1, 1])?;
-    tell(rt, &mut work, &branch, &rules, b'Y', &[])?;
-    Ok(())
+    letters::run(rt)?;
+    rows::run(rt)?;
+    calls::run(rt)?;
+    plans::run(rt)
 }
 
-// What rules say of a letter and the bytes after it.
-fn tell<M: FloorMap, R: SplitRule>(
-    rt: &HostRuntime,
-    work: &mut Workspace,
-    branch: &Branch<M>,
-    rules: &R,
-    letter: u8,
-    bytes: &[u8],
-) -> io::Result<()> {
-    print!(rt; "{}: ", char::from(letter))?;
-    if !rules.knows(letter) {
-        return println!(rt; "unknown");
-    }
-    if rules.width(letter, bytes).is_none() {
-        return println!(rt; "cut short");
-    }
-    match rules.sides(work, branch, letter, bytes) {
-        Ok((left, right)) => println!(rt; "{left}; or {right}"),
-        Err(refusal) => println!(rt; "refused {}", refusal.number()),
+// Our own letters, and S.
+fn rules() -> Beside<OwnRules, Single>
+    ensures { ⟦<Beside<OwnRules, Single> as SplitRule>⟧.rules result ≡ beside own single_rules }
+{
+    Beside {
+        first: own_rules(),
+        second: single_rule(),
     }
 }
