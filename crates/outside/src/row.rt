@@ -19,7 +19,7 @@ impl Row {
     // A row of so many places, where a floor may have as many.
     #[tactic(auto, using(crate::specs::RowLemmas::neighbours_are_next))]
     pub fn new(places: u16) -> Result<Row, MapRefusal>
-        ensures made { IfOk result (λ row. row.places ≡ places) }
+        ensures of_so_many_places { IfOk result (λ row. row.places ≡ places) }
         ensures refused { IfErr result (λ e. (InCount places → ⊥) × (e ≡ Count)) }
         ensures neighbours_are_next { NeighboursAreNext places }
     {
