@@ -28,7 +28,7 @@ pub data Case : Type 0 where
   reading : List ℕ → Result Hall MapFault → Case
   -- two lists of places conflict, or not
   meeting : List ℕ → List ℕ → Bool → Case
-  -- a cart's least length under bans, below a limit
+  -- how long a cart's shortest route under bans is, below a limit
   shortest : Floor → List Trip → List Ban → ℕ → ℕ → Option ℕ → Case
   -- a letter with its operands gives two sides or a refusal
   splitting : Floor → List Trip → List Ban → ℕ → List ℕ → Sides → Case

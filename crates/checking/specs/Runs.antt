@@ -30,12 +30,13 @@ pub record Follows (o : Opening) (before later : List CallAndStep) (run : Run) :
 
 -- What holds of the calls, whatever they are and whether they are taken or refused.
 pub record SoundAndComplete (o : Opening) (calls : List Call) : Type 0 where
-  -- At the start and after every call: each verdict stands exactly when its conditions hold; open branches and closings
-  -- are one more than splits; each conflict-free set below the claim keeps all bans of an open branch; with no open branch no conflict-free set is
-  -- below the claim; settling with the check's own card says least exactly when nothing is open and every cart has a
-  -- route, summing to the claim; and then these routes are free of conflict and no conflict-free set sums to less.
+  -- Before the first call and behind each: a verdict stands exactly when its conditions hold; open branches and
+  -- closings are one more than splits; each conflict-free set below the claim keeps all bans of an open branch; with no
+  -- open branch no conflict-free set is below the claim; settling with the check's own card says least exactly when
+  -- nothing is open and every cart has a route, summing to the claim; and then these routes are free of conflict and no
+  -- conflict-free set sums to less.
   pub sound_after_every_call : (before rest : List Call) → before ++ rest ≡ calls → SoundTally o (after_all o at_start before)
-  -- At the start and after every call, the splits and the closings of the standing are those taken so far.
+  -- There too the splits and the closings of the standing are those taken so far.
   pub counts_after_every_call : (before rest : List Call) → before ++ rest ≡ calls → CountsTaken o before
   -- Are they the calls of an honest tree within the limits, with its routes shown anywhere between, then each is taken
   -- and the settlement says least.

@@ -85,7 +85,7 @@ fn goes_on<M: FloorMap>(map: &M, places: &[Place], tick: Tick) -> bool
     may_step(map, from, to) && (t + 2 < places.len() || from != to)
 }
 
-// Whether a step stays or goes to a neighbour.
+// Whether the floor has the step: a wait, or a move to a neighbour.
 fn may_step<M: FloorMap>(map: &M, from: Place, to: Place) -> bool
     ensures { result ≡ may_step (M.FloorMap.floor map.now) from.0 to.0 }
 {

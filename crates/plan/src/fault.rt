@@ -12,7 +12,7 @@ use tally::Refusal;
 pub enum FileRefusal {
     // a letter that no rule knows, or one out of its place
     Letter = 21,
-    // operands cut short, or the file ends before `Z`
+    // the file ends within a command, or before `Z`
     CutShort = 22,
     // bytes behind `Z`
     Trailing = 23,

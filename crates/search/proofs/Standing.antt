@@ -1,4 +1,4 @@
--- A cart can stand at a place exactly where the cart is there and a walk ends at that place of the floor.
+-- Where a cart can stand: exactly at the places of the floor at which a walk of it ends, if it is there.
 use Rattle.std.proofs.Common.{◌≡◌, ℕ, zero, suc, ◌<◌, ◌≤◌, true, false, List, length, Decides, sym, arith}
 use Rattle.std.proofs.lemmas.Bool.Decides.{Decides-and, Decides-like, Decides-ltb}
 use Rattle.floor.specs.Floor.{Floor, Lawful}

@@ -1,4 +1,4 @@
--- Two rules side by side: the first that knows the letter answers.
+-- Two rules side by side: a letter is answered by the first to know it.
 use Rattle.std.specs.Prelude.{cond, ◌||◌}
 use Rattle.splits.specs.Rules.{Rules}
 

@@ -5,7 +5,7 @@
 -- stretch of its route its position along the corridor goes from 0 to k, by at most one a tick. That of the other cart
 -- goes from k to 0. Neither sets out after the other has come to where it sets out from, so the two stretches have ticks
 -- in common. At the first of these the one position is at most the other, at the last it is at least the other: between
--- them the carts are at one place at one tick, or cross one connection in one step.
+-- them both carts are at the same place at some tick, or cross a connection against each other in some step.
 use Rattle.std.specs.Prelude.{◌≡◌, ℕ, suc, ◌-◌, ◌<◌, ◌≤◌, min, max, ◌⊎◌, List}
 use Rattle.std.proofs.Common.{inl, inr, ⊎_elim, sym, ap, ◌∙◌, arith}
 use Rattle.std.proofs.lemmas.Bool.{cases_lt}

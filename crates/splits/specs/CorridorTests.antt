@@ -71,7 +71,7 @@ is_passing f trips bans w =
     not (stands_before f trips (last_move_ban w ∷ bans) w.cart.0 (w.tick.0 + 1) w.last.0) &&
     not (stands_before f trips bans w.other.0 (w.tick.0 - w.steps) w.first.0)
 
--- neither cart starts on an inner place
+-- the starts of both carts are no inner places
 abbrev pub are_outside : List Trip → Passage → (ℕ → ℕ) → Bool
 are_outside trips o c = is_outside trips o.a c o.k && is_outside trips o.b c o.k
 

@@ -14,7 +14,7 @@ abbrev pub Sides : Type 0
 Sides = Result (Ban × Ban) SplitRefusal
 
 -- Which letters are known; how many of the bytes after a letter are its operands, none where they are cut short; and,
--- for a floor, carts, a branch's bans, a letter and its operands, the two sides.
+-- on a floor, for the trips of carts, under the bans of a branch, the two sides that a letter and its operands give.
 pub record Rules : Type 0 where
   pub knows : ℕ → Bool
   pub width : ℕ → List ℕ → Option ℕ

@@ -7,7 +7,7 @@ use floor::FloorMap;
 use motion::Ban;
 use search::{Branch, Workspace};
 
-// Two rules side by side: the first that knows the letter answers.
+// Two rules side by side: a letter is answered by the first to know it.
 #[derive(Drop)]
 pub struct Beside<A, B> {
     pub first: A,

@@ -3,7 +3,7 @@ use Rattle.std.specs.Prelude.{ℕ, suc, Bool, cond, List, [], ◌∷◌, ◌++�
 use Rattle.floor.specs.Tests.{some}
 use Rattle.motion.specs.declared.ban.Ban.{Ban}
 
--- the bans of a branch, and how many splits it lies under
+-- the bans of a branch, and the number of splits above it
 pub record Branch : Type 0 where
   pub bans : List Ban
   pub depth : ℕ

@@ -34,7 +34,7 @@ pub enum Refusal {
     BadTick = 18,
     // the letter's own condition fails
     Unlawful = 19,
-    // a set that keeps the branch's bans sums below the claim
+    // some set of routes keeps the bans of the branch and has a sum below the claim
     CheaperSet = 20,
     // a letter that no rule knows
     Letter = 21,

@@ -99,7 +99,7 @@ impl Chain {
         !self.inner().contains(&trip.start)
     }
 
-    // Whether neither cart starts on an inner place.
+    // Whether the starts of both carts are no inner places.
     fn are_outside(&self, trips: &[Trip]) -> bool
         requires { (self.now.passage.a.0 < length trips.now) × (self.now.passage.b.0 < length trips.now) }
         ensures { result ≡ are_outside trips.now self.now.passage (listed_at (numbers self.now.places)) }
