@@ -19,7 +19,7 @@ pub enum Fault {
     BadTick,
     // there is no corridor of this length from the one place by the other
     NoCorridor,
-    // one of the carts starts within the corridor
+    // a start is an inner place
     StartsInside,
     // a tick is too far: a cart can come by it without its last move, or the other cart so early that it is through
     TooFar,
