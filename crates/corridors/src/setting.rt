@@ -3,7 +3,7 @@ use crate::arrangement::Arrangement;
 use crate::corridor::{Corridor, corridors};
 use crate::small_floor::SmallFloor;
 use crate::walks::Walks;
-use maps::{ListMap, MapError};
+use maps::ListMap;
 use motion::{Ban, Trip};
 use search::Branch;
 use std::alloc::Global;
@@ -21,7 +21,7 @@ impl Setting {
         heap: Global,
         floor: SmallFloor,
         arrangements: &[Arrangement],
-    ) -> Result<Setting, MapError> {
+    ) -> anyhow::Result<Setting> {
         Ok(Setting {
             floor,
             map: floor.list_map(heap)?,

@@ -1,7 +1,7 @@
 // Floors of up to six places, one for each set of connections.
 use crate::arrangement::arrangements;
 use floor::Place;
-use maps::{Connection, ListMap, MapError};
+use maps::{Connection, ListMap};
 use std::alloc::{AllocError, Global};
 
 // The connections that six places can have. Those of fewer places stand first.
@@ -65,8 +65,9 @@ impl SmallFloor {
     }
 
     // The floor as a map that a rule can be asked about.
-    pub fn list_map(&self, heap: Global) -> Result<ListMap, MapError> {
-        let mut map = ListMap::new(heap, self.places)?;
+    pub fn list_map(&self, heap: Global) -> anyhow::Result<ListMap> {
+        let mut map = ListMap::with_room(heap)?;
+        map.found(self.places)?;
         for &(p, q) in &CONNECTIONS {
             if self.joins(Place(p), Place(q)) {
                 map.join(Connection {
