@@ -1,10 +1,9 @@
 -- Reading a command that is due: a letter, and so many operand bytes behind it.
 use Rattle.std.specs.Prelude.{ℕ, ◌+◌, List, [], ◌∷◌, length, take, drop, Ok, Err, Result, ◌==◌, nat_le, if◌then◌else◌}
-use Rattle.cursor.specs.Rests.{Rest, rest, rest_of}
+use Rattle.cursor.specs.Rests.{Rest, rest}
 use Rattle.cursor.specs.declared.missing.Lack.{Lack}
 use Rattle.cursor.specs.declared.missing.Lack.TheVariants.{Letter, CutShort}
 use Rattle.cursor.specs.declared.missing.Missing.{Missing}
-use Rattle.cursor.specs.declared.reader.Cursor.{Cursor}
 
 abbrev pub missing : Lack → ℕ → Missing
 missing lack at = record { lack = lack; offset = at }
@@ -25,7 +24,3 @@ operands due n left = from left.at left.bytes
 abbrev pub told : {A Fault : Type 0} → (Missing → Fault) → Result A Missing → Result A Fault
 told fault (Ok x) = Ok x
 told fault (Err m) = Err (fault m)
-
--- operands that were read, and what is left behind them
-abbrev pub taken : List ℕ × Cursor → List ℕ × Rest
-taken p = (p.0, rest_of p.1)

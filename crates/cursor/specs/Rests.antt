@@ -12,3 +12,7 @@ rest at bytes = record { at = at; bytes = bytes }
 
 abbrev pub rest_of : Cursor → Rest
 rest_of c = rest c.at c.bytes.now
+
+-- what was read, and what is left behind it
+abbrev pub before_rest : {X : Type 0} → X × Cursor → X × Rest
+before_rest p = (p.0, rest_of p.1)

@@ -12,9 +12,9 @@ pub struct Cursor<'a> {
 }
 
 impl<'a> Cursor<'a> {
-    ghost use Rattle.cursor.specs.Commands.{missing, operands, taken};
+    ghost use Rattle.cursor.specs.Commands.{missing, operands};
     ghost use Rattle.cursor.specs.Exactly.{ReadExactly, MissedExactly};
-    ghost use Rattle.cursor.specs.Rests.{rest_of};
+    ghost use Rattle.cursor.specs.Rests.{before_rest, rest_of};
     ghost use Rattle.cursor.specs.declared.missing.Lack.TheVariants.{CutShort};
 
     // What is left behind so many bytes: nothing, where no more are left.
@@ -32,7 +32,7 @@ impl<'a> Cursor<'a> {
     // The operands of the command that is due here, and what is left behind them.
     #[tactic(auto, using(crate::proofs::Commands::read_exactly, crate::proofs::Commands::missed_exactly))]
     pub fn operands<const N: usize>(self, due: u8) -> Result<([u8; N], Cursor<'a>), Missing>
-        ensures is_the_reading { operands due N (rest_of self.entry) ≡ result_map_both taken (λ m. m) result }
+        ensures is_the_reading { operands due N (rest_of self.entry) ≡ result_map_both before_rest (λ m. m) result }
         ensures read_exactly { ReadExactly due N (rest_of self.entry) }
         ensures missed_exactly { MissedExactly due N (rest_of self.entry) }
     {

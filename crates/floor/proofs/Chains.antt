@@ -43,10 +43,6 @@ module _ {A E : Type 0} where
   passed true e next x h = absurd (ok_no_err (sym h))
   passed false e next x h = (refl, h)
 
-  pub refused_or_passed : (b : Bool) (e : E) (next : Result A E) (f : E) → (refuse b e >> next) ≡ Err f → ((b ≡ true) × (e ≡ f)) ⊎ ((b ≡ false) × (next ≡ Err f))
-  refused_or_passed true e next f h = inl (refl, err_same h)
-  refused_or_passed false e next f h = inr (refl, h)
-
 -- ---- what the outcome of a chain tells, from what each stage tells
 
 -- P is to hold of what is given, and Q of a fault

@@ -1,10 +1,9 @@
 ghost use Rattle.std.specs.Prelude.{◌≡◌};
 ghost use Rattle.std.specs.Result.{result_map_both};
-ghost use Rattle.cursor.specs.Rests.{rest_of};
+ghost use Rattle.cursor.specs.Rests.{before_rest, rest_of};
 ghost use Rattle.maps.specs.ListMaps.{network_of};
 ghost use Rattle.mapfile.specs.ListFiles.{connected, connection_at, counted, list_reading};
 ghost use Rattle.mapfile.specs.ListLayout.{ListReadExactly, ListFaultsExactly};
-ghost use Rattle.mapfile.specs.ListReads.{before_rest};
 
 use crate::fault::Fault;
 use crate::memory::MapMemory;

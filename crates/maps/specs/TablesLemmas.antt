@@ -1,8 +1,8 @@
 -- The rows of a table, after a read and after a write.
-use Rattle.std.specs.Prelude.{◌≡◌, ℕ, ◌<◌, ◌≤◌, List, [], ◌∷◌, ◌++◌, map, length, get_or, replicate, ◌≢◌, slice_index_or, slice_set, refl}
+use Rattle.std.specs.Prelude.{◌≡◌, ℕ, ◌<◌, ◌≤◌, List, [], ◌∷◌, ◌++◌, map, length, get_or, ◌≢◌, slice_index_or, slice_set, refl}
 use Rattle.std.proofs.Common.{inl, inr, ⊎_elim, sym, ap, subst, ◌∙◌, arith}
-use Rattle.std.proofs.lemmas.List.{length-map, length-set, length-replicate, get_or-map, get_or_past, get_or-replicate, get_or-set_same, get_or-set_other, map-set, map_push}
-use Rattle.std.proofs.lemmas.Bool.{cases_eq, cases_lt}
+use Rattle.std.proofs.lemmas.List.{length-map, length-set, get_or-map, get_or_past, get_or-set_same, get_or-set_other, map-set, map_push}
+use Rattle.std.proofs.lemmas.Bool.{cases_eq}
 use Rattle.maps.specs.Networks.{partners}
 use Rattle.floor.specs.Numbers.{numbers}
 use Rattle.maps.specs.Tables.{numbers_in, row_of}
@@ -22,12 +22,6 @@ row_read rows p r h e = ap numbers_in e ∙ sym (get_or-map numbers_in rows p r 
 
 pub row_past : (rows : List (ArrayVec Place)) (p : ℕ) → length rows ≤ p → row_of rows p ≡ []
 row_past rows p h = let long = length-map rows numbers_in in get_or_past (map numbers_in rows) p [] (omega arith)
-
-pub row_of_same : (n : ℕ) (r : ArrayVec Place) (p : ℕ) → numbers_in r ≡ [] → row_of (replicate n r) p ≡ []
-row_of_same n r p e =
-    let long = length-replicate n r in
-    ⊎_elim (λ lt. get_or-map numbers_in (replicate n r) p r [] (omega arith) ∙ ap numbers_in (get_or-replicate n p r r lt) ∙ e) (λ ge. row_past (replicate n r) p (omega arith))
-    (cases_lt p n)
 
 pub row_of_set : (rows : List (ArrayVec Place)) (i : ℕ) (r : ArrayVec Place) → i < length rows → row_of (slice_set rows i r) i ≡ numbers_in r
 row_of_set rows i r h =

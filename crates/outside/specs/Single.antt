@@ -6,7 +6,7 @@ use Rattle.motion.specs.Routes.{nowhere}
 use Rattle.motion.specs.declared.trip.Trip.{Trip}
 use Rattle.motion.specs.declared.ban.Ban.{Ban}
 use Rattle.motion.specs.declared.ban.Ban.TheVariants.{Stand}
-use Rattle.splits.specs.Conditions.{OnFloor, Tells, is_on_floor, is_in_time, judged}
+use Rattle.splits.specs.Conditions.{IsPlace, Tells, is_place, is_in_time, judged}
 use Rattle.splits.specs.Operands.{byte, cart_in, of_width}
 use Rattle.splits.specs.Rules.{Rules, Sides, InTime}
 use Rattle.outside.specs.declared.single.Doubling.{Doubling}
@@ -25,7 +25,7 @@ single_bans trips d = (Stand d.cart (target trips d) d.tick d.tick, Stand d.cart
 
 -- the sides that the operands give, or the first refusal that fits
 abbrev pub single_sides : Floor → List Trip → Doubling → Sides
-single_sides f trips d = judged (nat_lt d.cart.0 (length trips)) (is_on_floor f d.place) (is_in_time d.tick) (not (d.place.0 == (target trips d).0)) (single_bans trips d)
+single_sides f trips d = judged (nat_lt d.cart.0 (length trips)) (is_place f d.place) (is_in_time d.tick) (not (d.place.0 == (target trips d).0)) (single_bans trips d)
 
 -- the byte of the letter S
 abbrev pub single_letter : ℕ
@@ -41,4 +41,4 @@ single_rules = record {
 
 -- what an answer says: the sides are given exactly where the place is not the cart's target
 abbrev pub SingleTells : Floor → List Trip → Doubling → Sides → Type 0
-SingleTells f trips d = Tells (d.cart.0 < length trips) (OnFloor f d.place) (InTime d.tick.0) (λ sides. (d.place.0 ≢ (target trips d).0) × (sides ≡ single_bans trips d))
+SingleTells f trips d = Tells (d.cart.0 < length trips) (IsPlace f d.place) (InTime d.tick.0) (λ sides. (d.place.0 ≢ (target trips d).0) × (sides ≡ single_bans trips d))

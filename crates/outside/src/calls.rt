@@ -1,16 +1,16 @@
 // Whole checks on the small floor, call by call.
 //
-// Cart 0 goes from 0 to 3, and cart 1 from its bay at 4 to 2. Each by itself needs 3 ticks and 1, and then cart 0 goes
+// Cart 0 goes from 0 to 3, and cart 1 from 4 to 2. Each by itself needs 3 ticks and 1, and then cart 0 goes
 // through 2 at tick 2, where cart 1 rests. So cart 1 waits until cart 0 has passed, and the sum is 3 + 3.
 //
 // S loses no set of routes, with conflicts or without, so by itself it raises no sum. It tells apart whether cart 1 goes
-// home at once, and each case needs another letter of ours:
+// to 2 at once, and each case needs another letter of ours:
 // - left, it is not at 2 at tick 1, so its length is 2 or more. V at 2 at tick 2: without cart 0 there the sum is 4 + 2,
 //   and without cart 1 there it is 3 + 3.
-// - right, it is not in its bay at tick 1. T at tick 1: if its length is more than 1, it has been at 2 at tick 1, has left
+// - right, it is not at 4 at tick 1. T at tick 1: if its length is more than 1, it has been at 2 at tick 1, has left
 //   it and has come back, which is 3 + 3; if not, no other cart is at 2 from tick 1 on, and cart 0 has no route.
 //
-// At the start neither letter is enough: V leaves 4 + 1, where cart 1 goes home at once, and T leaves 3 + 2, where it
+// At the start neither letter is enough: V leaves 4 + 1, where cart 1 goes to 2 at once, and T leaves 3 + 2, where it
 // waits for one tick.
 use crate::rules;
 use checking::{Call, CallAndStep, Step, Terms, run_calls};

@@ -68,16 +68,16 @@ impl Fault {
 impl From<mapfile::Fault> for Fault {
     ghost from_gives = { λ f r. r ≡ MapFault f };
 
-    fn from(fault: mapfile::Fault) -> Fault {
-        Fault::Map(fault)
+    fn from(fault: mapfile::Fault) -> Self {
+        Self::Map(fault)
     }
 }
 
 impl From<plan::Fault> for Fault {
     ghost from_gives = { λ f r. r ≡ PlanFault f };
 
-    fn from(fault: plan::Fault) -> Fault {
-        Fault::Plan(fault)
+    fn from(fault: plan::Fault) -> Self {
+        Self::Plan(fault)
     }
 }
 

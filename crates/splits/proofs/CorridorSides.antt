@@ -6,7 +6,7 @@ use Rattle.floor.proofs.Chains.{not_refused}
 use Rattle.floor.specs.Numbers.{numbers}
 use Rattle.motion.specs.declared.trip.Trip.{Trip}
 use Rattle.motion.specs.declared.ban.Ban.{Ban}
-use Rattle.splits.specs.Conditions.{is_two, is_on_floor, is_in_time, judge}
+use Rattle.splits.specs.Conditions.{is_two, is_place, is_in_time, judge}
 use Rattle.splits.specs.Corridor.{corridor_bans}
 use Rattle.splits.specs.CorridorTests.{along, listed_at, is_corridor_for, led_to, corridor_sides}
 use Rattle.splits.specs.declared.corridor.passage.Passage.{Passage}
@@ -18,10 +18,10 @@ all_passed : (carts p q m n : Bool) → carts ≡ true → p ≡ true → q ≡ 
 all_passed carts p q m n c_yes p_yes q_yes m_yes n_yes = rw (c_yes, p_yes, q_yes, m_yes, n_yes) refl
 
 module _ (f : Floor) (trips : List Trip) (bans : List Ban) (o : Passage) (two : Ok tt ≡ refuse (not (is_two trips o.a o.b)) NoCart)
-    (p_on : Ok tt ≡ refuse (not (is_on_floor f o.p)) NoPlace) (q_on : Ok tt ≡ refuse (not (is_on_floor f o.q)) NoPlace)
+    (p_on : Ok tt ≡ refuse (not (is_place f o.p)) NoPlace) (q_on : Ok tt ≡ refuse (not (is_place f o.q)) NoPlace)
     (m_in : Ok tt ≡ refuse (not (is_in_time o.m)) BadTick) (n_in : Ok tt ≡ refuse (not (is_in_time o.n)) BadTick)
     (chain : Chain) (same : chain.passage ≡ o) (led : numbers chain.places ≡ along f o.p.0 o.q.0 64) where
-  conditions_hold : judge (is_two trips o.a o.b) (is_on_floor f o.p && is_on_floor f o.q) (is_in_time o.m && is_in_time o.n) ≡ Ok tt
+  conditions_hold : judge (is_two trips o.a o.b) (is_place f o.p && is_place f o.q) (is_in_time o.m && is_in_time o.n) ≡ Ok tt
   conditions_hold = all_passed _ _ _ _ _ (not_refused _ _ two) (not_refused _ _ p_on) (not_refused _ _ q_on) (not_refused _ _ m_in) (not_refused _ _ n_in)
 
   by_the_chain : (asked : Bool) → asked ≡ is_corridor_for f trips bans chain.passage (listed_at (numbers chain.places)) →

@@ -18,8 +18,8 @@ abbrev pub Two : List Trip → Cart → Cart → Type 0
 Two trips a b = (a.0 < length trips) × (b.0 < length trips) × (a.0 ≢ b.0)
 
 -- a place of the floor
-abbrev pub OnFloor : Floor → Place → Type 0
-OnFloor f p = p.0 < f.count
+abbrev pub IsPlace : Floor → Place → Type 0
+IsPlace f p = p.0 < f.count
 
 -- What an answer says, where own is the letter's own condition and the sides that it gives: the first condition that
 -- fails is the one told, and with none the sides are given. So each answer is given exactly when it says what is so.
@@ -37,8 +37,8 @@ abbrev pub is_two : List Trip → Cart → Cart → Bool
 is_two trips a b = nat_lt a.0 (length trips) && (nat_lt b.0 (length trips) && not (a.0 == b.0))
 
 -- it is a place of the floor
-abbrev pub is_on_floor : Floor → Place → Bool
-is_on_floor f p = nat_lt p.0 f.count
+abbrev pub is_place : Floor → Place → Bool
+is_place f p = nat_lt p.0 f.count
 
 -- no split names a tick above 4,000
 abbrev pub is_in_time : Tick → Bool

@@ -9,7 +9,7 @@ use Rattle.motion.specs.declared.trip.Trip.{Trip}
 use Rattle.motion.specs.declared.ban.Ban.{Ban}
 use Rattle.motion.specs.declared.ban.Ban.TheVariants.{Move}
 use Rattle.search.specs.Rows.{stands_before}
-use Rattle.splits.specs.Conditions.{Two, OnFloor, Tells, is_two, is_on_floor, is_in_time, judged}
+use Rattle.splits.specs.Conditions.{Two, IsPlace, Tells, is_two, is_place, is_in_time, judged}
 use Rattle.splits.specs.Corridor.{CorridorFor, tick, forth, back, corridor_bans}
 use Rattle.splits.specs.Operands.{byte, cart_in, place_in, tick_in, of_width}
 use Rattle.splits.specs.Rules.{Rules, Sides, InTime}
@@ -90,7 +90,7 @@ led_to f o = listed_at (along f o.p.0 o.q.0 64)
 -- the sides that the operands give on a branch, or the first refusal that fits
 abbrev pub corridor_sides : Floor → List Trip → List Ban → Passage → Sides
 corridor_sides f trips bans o =
-    judged (is_two trips o.a o.b) (is_on_floor f o.p && is_on_floor f o.q) (is_in_time o.m && is_in_time o.n)
+    judged (is_two trips o.a o.b) (is_place f o.p && is_place f o.q) (is_in_time o.m && is_in_time o.n)
     (is_corridor_for f trips bans o (led_to f o)) (corridor_bans o (led_to f o))
 
 -- the byte of the letter K
@@ -107,5 +107,5 @@ corridor_rules = record {
 
 -- what an answer says: the sides are given exactly where some places are a corridor as the split asks
 abbrev pub CorridorTells : Floor → List Trip → List Ban → Passage → Sides → Type 0
-CorridorTells f trips bans o = Tells (Two trips o.a o.b) (OnFloor f o.p × OnFloor f o.q) (InTime o.m.0 × InTime o.n.0)
+CorridorTells f trips bans o = Tells (Two trips o.a o.b) (IsPlace f o.p × IsPlace f o.q) (InTime o.m.0 × InTime o.n.0)
     (λ sides. (c : ℕ → ℕ) × CorridorFor f trips bans o c × (sides ≡ corridor_bans o c))

@@ -5,7 +5,7 @@ use Rattle.floor.specs.Joins.{is_joined}
 use Rattle.motion.specs.declared.trip.Trip.{Trip}
 use Rattle.motion.specs.declared.ban.Ban.{Ban}
 use Rattle.motion.specs.declared.ban.Ban.TheVariants.{Move}
-use Rattle.splits.specs.Conditions.{Two, OnFloor, Tells, is_two, is_on_floor, is_in_time, judged}
+use Rattle.splits.specs.Conditions.{Two, IsPlace, Tells, is_two, is_place, is_in_time, judged}
 use Rattle.splits.specs.Operands.{cart_in, place_in, tick_in, of_width}
 use Rattle.splits.specs.Rules.{Rules, Sides, InTime}
 use Rattle.splits.specs.declared.edge.Crossing.{Crossing}
@@ -20,7 +20,7 @@ edge_bans e = (Move e.a e.from e.to e.tick e.tick, Move e.b e.to e.from e.tick e
 
 -- a move arrives at tick 1 at the earliest
 abbrev pub edge_sides : Floor → List Trip → Crossing → Sides
-edge_sides f trips e = judged (is_two trips e.a e.b) (is_on_floor f e.from && is_on_floor f e.to) (nat_le 1 e.tick.0 && is_in_time e.tick)
+edge_sides f trips e = judged (is_two trips e.a e.b) (is_place f e.from && is_place f e.to) (nat_le 1 e.tick.0 && is_in_time e.tick)
     (is_joined f e.from.0 e.to.0) (edge_bans e)
 
 -- the byte of the letter E
@@ -37,5 +37,5 @@ edge_rules = record {
 
 -- what an answer says: the sides are given exactly where the two places are neighbours
 abbrev pub EdgeTells : Floor → List Trip → Crossing → Sides → Type 0
-EdgeTells f trips e = Tells (Two trips e.a e.b) (OnFloor f e.from × OnFloor f e.to) ((1 ≤ e.tick.0) × InTime e.tick.0)
+EdgeTells f trips e = Tells (Two trips e.a e.b) (IsPlace f e.from × IsPlace f e.to) ((1 ≤ e.tick.0) × InTime e.tick.0)
     (λ sides. Joined f e.from.0 e.to.0 × (sides ≡ edge_bans e))

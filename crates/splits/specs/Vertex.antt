@@ -4,7 +4,7 @@ use Rattle.floor.specs.Floor.{Floor}
 use Rattle.motion.specs.declared.trip.Trip.{Trip}
 use Rattle.motion.specs.declared.ban.Ban.{Ban}
 use Rattle.motion.specs.declared.ban.Ban.TheVariants.{Stand}
-use Rattle.splits.specs.Conditions.{Two, OnFloor, Tells, is_two, is_on_floor, is_in_time, judged}
+use Rattle.splits.specs.Conditions.{Two, IsPlace, Tells, is_two, is_place, is_in_time, judged}
 use Rattle.splits.specs.Operands.{cart_in, place_in, tick_in, of_width}
 use Rattle.splits.specs.Rules.{Rules, Sides, InTime}
 use Rattle.splits.specs.declared.vertex.Meeting.{Meeting}
@@ -19,7 +19,7 @@ vertex_bans v = (Stand v.a v.place v.tick v.tick, Stand v.b v.place v.tick v.tic
 
 -- the sides that the operands give, or the first refusal that fits
 abbrev pub vertex_sides : Floor → List Trip → Meeting → Sides
-vertex_sides f trips v = judged (is_two trips v.a v.b) (is_on_floor f v.place) (is_in_time v.tick) true (vertex_bans v)
+vertex_sides f trips v = judged (is_two trips v.a v.b) (is_place f v.place) (is_in_time v.tick) true (vertex_bans v)
 
 -- the byte of the letter V
 abbrev pub vertex_letter : ℕ
@@ -35,4 +35,4 @@ vertex_rules = record {
 
 -- what an answer says: the letter has no condition of its own
 abbrev pub VertexTells : Floor → List Trip → Meeting → Sides → Type 0
-VertexTells f trips v = Tells (Two trips v.a v.b) (OnFloor f v.place) (InTime v.tick.0) (λ sides. sides ≡ vertex_bans v)
+VertexTells f trips v = Tells (Two trips v.a v.b) (IsPlace f v.place) (InTime v.tick.0) (λ sides. sides ≡ vertex_bans v)

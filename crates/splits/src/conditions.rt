@@ -1,7 +1,7 @@
 // What every letter asks of its carts, places and ticks.
 ghost use Rattle.std.specs.Prelude.{◌≡◌, length, not, nat_lt};
 ghost use Rattle.floor.specs.Checks.{refuse};
-ghost use Rattle.splits.specs.Conditions.{is_two, is_on_floor, is_in_time};
+ghost use Rattle.splits.specs.Conditions.{is_two, is_place, is_in_time};
 ghost use Rattle.splits.specs.declared.refusal.SplitRefusal.TheVariants.{NoCart, NoPlace, BadTick};
 
 use crate::refusal::SplitRefusal;
@@ -33,7 +33,7 @@ pub fn check_two_carts(trips: &[Trip], a: Cart, b: Cart) -> Result<(), SplitRefu
 }
 
 pub fn check_place<M: FloorMap>(map: &M, p: Place) -> Result<(), SplitRefusal>
-    ensures { result ≡ refuse (not (is_on_floor (M.FloorMap.floor map.now) p)) NoPlace }
+    ensures { result ≡ refuse (not (is_place (M.FloorMap.floor map.now) p)) NoPlace }
 {
     ensure(usize::from(p) < map.places(), SplitRefusal::NoPlace)
 }

@@ -1,5 +1,5 @@
 #!/usr/bin/env python3
-"""Counts the places of src/ that docs/DESIGN-PASS.md speaks of. Run it at the top of a checkout: tools/places.py [--list]."""
+"""Counts the places of src/ that docs/history/DESIGN-PASS.md speaks of. Run it at the top of a checkout: docs/history/tools/places.py [--list]."""
 
 import collections
 import itertools

@@ -1,7 +1,7 @@
 #!/usr/bin/env python3
 """Brings the repository's own names to today's spelling: words of a definition or a lemma are joined by `_`.
 
-usage: python3 tools/respell.py          at the top of the repository, once, after the toolchain's own port script
+usage: python3 docs/history/tools/respell.py at the top of the repository, once, after the toolchain's own port script
 
 A name that has a dash and that a file of specs/ or proofs/ declares gets underscores, wherever it stands in a .rt or
 .antt file of crates/ or, between backticks, in README.md and docs/. Names that the toolchain makes keep theirs: the
