@@ -1,5 +1,5 @@
 -- The right sides still to come, as a split and a closing change them.
-use Rattle.std.proofs.Common.{◌≡◌, ℕ, zero, suc, ◌<◌, ◌≤◌, cond, List, [], ◌∷◌, ◌++◌, length, get_or, take, set, is_some, Some, None, Option, sym, refl, ap, ◌∙◌, ap₂, add-one, arith}
+use Rattle.std.proofs.Common.{◌≡◌, ℕ, zero, suc, ◌+◌, ◌<◌, ◌≤◌, cond, List, [], ◌∷◌, ◌++◌, length, get_or, take, set, is_some, Some, None, Option, sym, refl, ap, ◌∙◌, ap₂, add-one, arith}
 use Rattle.motion.specs.declared.ban.Ban.{Ban}
 use Rattle.std.proofs.Math.Seq.{get_or-append_seam}
 use Rattle.std.proofs.lemmas.List.{get_or_append_left, length-append, length_push, take_all, take_more, take_more_set, take-set, take-set-le}
@@ -37,6 +37,11 @@ rights_push bans others o =
     ap (rights bans (others ++ (o ∷ []))) (length_push others o ∙ add-one (length others)) ∙
     ap₂ (λ x later. to_come (take (length others) bans) x ++ later) (get_or-append_seam others o [] None) (rights_front bans others (o ∷ []) (length others) (omega arith))
 
+-- one more of them looked at
+pub count_more : (others : List (Option Ban)) (d : ℕ) → d < length others → count_by is_some (take (d + 1) others) ≡ count_by is_some (take d others) + cond (is_some (get_or others d None)) 1 0
+count_more others d h =
+    ap (count_by is_some) (take_more others d None h) ∙ sum_by_push (λ o. cond (is_some o) 1 0) (take d others) (get_or others d None)
+
 -- each right side still to come is one branch
 pub count_rights : (bans : List Ban) (others : List (Option Ban)) → length (rights bans others (length others)) ≡ count_by is_some others
 count_rights bans others = to_depth (length others) (omega arith) ∙ ap (count_by is_some) (take_all (length others) others (omega arith))
@@ -44,9 +49,8 @@ count_rights bans others = to_depth (length others) (omega arith) ∙ ap (count_
     to_depth : (d : ℕ) → d ≤ length others → length (rights bans others d) ≡ count_by is_some (take d others)
     to_depth zero h = refl
     to_depth (suc d) h =
-        let shorter = ap (λ n. take n others) (sym (add-one d)) ∙ take_more others d None (omega arith) in
-        let counted = ap (count_by is_some) shorter ∙ sum_by_push (λ o. cond (is_some o) 1 0) (take d others) (get_or others d None) in
-        omega (arith, counted, length-append (to_come (take d bans) (get_or others d None)) (rights bans others d), length_to_come (take d bans) (get_or others d None), to_depth d (omega arith))
+        let deeper = ap (λ n. count_by is_some (take n others)) (sym (add-one d)) in
+        omega (arith, deeper, count_more others d h, length-append (to_come (take d bans) (get_or others d None)) (rights bans others d), length_to_come (take d bans) (get_or others d None), to_depth d (omega arith))
 
 -- a right side that has been taken or was never there adds nothing
 pub rights_none : (bans : List Ban) (others : List (Option Ban)) → rights bans (others ++ (None ∷ [])) (length (others ++ (None ∷ []))) ≡ rights bans others (length others)

@@ -49,22 +49,21 @@ fn tell_carts(
     cases: &[(&str, &[Ban])],
 ) -> anyhow::Result<()> {
     for &(under, bans) in cases {
+        let mut work = Workspace::new(rt.alloc())?;
         println!(rt; "  {under}:")?;
-        tell_branch(rt, &Branch { map, trips, bans })?;
+        tell_branch(rt, &mut work, &Branch { map, trips, bans })?;
     }
     Ok(())
 }
 
 // The least length of each of two carts in a branch, and whether routes of these lengths sum below 6, and below 7.
-fn tell_branch(rt: &HostRuntime, branch: &Branch<AnyMap>) -> anyhow::Result<()> {
-    let mut work = Workspace::new(rt.alloc())?;
+fn tell_branch(rt: &HostRuntime, work: &mut Workspace, branch: &Branch<AnyMap>) -> io::Result<()> {
     for cart in [Cart(0), Cart(1)] {
-        tell_length(rt, &mut work, branch, cart)?;
+        tell_length(rt, work, branch, cart)?;
     }
-    let below_6 = branch.cheaper(&mut work, 6);
-    let below_7 = branch.cheaper(&mut work, 7);
-    println!(rt; "    some set sums below 6: {below_6}, below 7: {below_7}")?;
-    Ok(())
+    let below_6 = branch.cheaper(work, 6);
+    let below_7 = branch.cheaper(work, 7);
+    println!(rt; "    some set sums below 6: {below_6}, below 7: {below_7}")
 }
 
 fn tell_length(

@@ -7,7 +7,7 @@ mod checks;
 mod letters;
 mod survey;
 
-use anyhow::Context;
+use anyhow::anyhow;
 use floor::{FloorMap, Place, neighbours_of};
 use mapfile::{MapMemory, read_map};
 use maps::AnyMap;
@@ -45,8 +45,9 @@ fn tell_grid_hall(rt: &HostRuntime, memory: &mut MapMemory, bytes: &[u8]) -> any
     letters::tell_grid_letters(rt, &map)
 }
 
+// The fault itself has been told on the hall's own line by then.
 fn read_hall<'m>(memory: &'m mut MapMemory, bytes: &[u8]) -> anyhow::Result<AnyMap<'m>> {
-    read_map(memory, bytes).context("the hall is not read")
+    read_map(memory, bytes).map_err(|_| anyhow!("the hall is not read"))
 }
 
 // What a file holds, or why it is refused.

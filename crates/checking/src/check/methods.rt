@@ -1,7 +1,8 @@
-ghost use Rattle.std.specs.Prelude.{◌≡◌, IfOk, IfErr, OnErr};
+ghost use Rattle.std.specs.Prelude.{◌≡◌, IfOk, IfErr, OnErr, length};
 ghost use Rattle.checking.specs.Books.{tally_in};
 ghost use Rattle.checking.specs.CallsMade.{meant};
 ghost use Rattle.checking.specs.Checks.{opening_of, Answers, IsCurrent, RefusesBranches};
+ghost use Rattle.checking.specs.OpenBranches.{branches_of};
 ghost use Rattle.floor.specs.Numbers.{numbers};
 ghost use Rattle.std.specs.Option.{option_copied};
 ghost use Rattle.tally.specs.CallAnswers.{current_bans};
@@ -132,23 +133,27 @@ impl<'a, M: FloorMap, R: SplitRule> Check<'a, M, R> {
     pub fn standing(&self) -> Standing
         ensures { result ≡ standing (opening_of M.FloorMap.floor R.SplitRule.rules self.now.terms) (tally_in self.now.book) }
     {
+        // counted once: the verdict asks for it too
+        let branches = self.book.branches.count();
         Standing {
-            branches: self.book.branches.count(),
+            branches,
             splits: self.book.splits,
             closings: self.book.closings,
-            verdict: self.verdict(),
+            verdict: self.verdict(branches),
         }
     }
 
-    // No `?`: a barred check has a verdict too, and only one that may be opened has at most 16 carts to count.
-    fn verdict(&self) -> Verdict
+    // The verdict, where so many branches are open. No `?`: a barred check has a verdict too, and only one that may be
+    // opened has at most 16 carts to count.
+    fn verdict(&self, branches: usize) -> Verdict
+        requires { branches ≡ length (branches_of self.now.book.branches) }
         ensures { result ≡ (standing (opening_of M.FloorMap.floor R.SplitRule.rules self.now.terms) (tally_in self.now.book)).verdict }
     {
         if let Err(refusal) = self.terms.opened() {
             return Verdict::Barred(refusal);
         }
         Verdict::of(
-            self.book.branches.count(),
+            branches,
             unshown(&self.book.routes, self.terms.trips.len()),
             shown_sum(&self.book.routes, self.terms.trips.len()),
             usize::from(self.terms.claim),

@@ -11,5 +11,5 @@ shown_sum-requires g c = few_carts _ c.in_default.ensures
 
 pub returns : goal.returns
 returns g c =
-    c.of.ensures ∙ ap (verdict_of (Ok tt) c.count.result c.unshown.result c.shown_sum.result) c.from.ensures
-    ∙ verdict_told _ c.args.self.now.book c.in_default.ensures _ _ _ c.count.ensures c.unshown.ensures c.shown_sum.ensures
+    c.of.ensures ∙ ap (verdict_of (Ok tt) c.args.branches c.unshown.result c.shown_sum.result) c.from.ensures
+    ∙ verdict_told _ c.args.self.now.book c.in_default.ensures _ _ _ c.requires c.unshown.ensures c.shown_sum.ensures
