@@ -1,6 +1,7 @@
 #!/usr/bin/env bash
 # Runs `settle` and `account` on each folder of examples/ and of tests/told/, and on files that are missing or too long,
-# and compares what they print with what they have to: byte for byte, with the line ends.
+# and `halls` on halls that are cut, and compares what they print with what they have to: byte for byte, with the line
+# ends.
 set -euo pipefail
 shopt -s nullglob
 unset CDPATH
@@ -31,6 +32,21 @@ small_floor() {
 prints() {
     printf '%s\n' "$3" >"$dir/expected"
     compare "$1" "$dir/$2" "$dir/expected"
+}
+
+# What `halls` has to print on both outputs, and its status, where one of its two files is cut to so many bytes.
+halls_cut() {
+    local file=$1 bytes=$2 text=$3
+    rm -rf "$dir/halls" && mkdir "$dir/halls"
+    cp -- "$top"/crates/halls/data/* "$dir/halls"
+    head -c "$bytes" "$top/crates/halls/data/$file" >"$dir/halls/$file"
+    count=$((count + 1))
+    (cd -- "$dir/halls" && "$top/crates/halls/out/halls" 2>&1 || echo "status $?") | tail -n 3 >"$dir/printed"
+    if ! printf '%s\n' "$text" 'Error: the hall is not read' 'status 1' | cmp -s -- - "$dir/printed"; then
+        echo "halls with $file cut to $bytes bytes:" >&2
+        cat -- "$dir/printed" >&2
+        differ=$((differ + 1))
+    fi
 }
 
 # The file filled up with a letter to so many bytes.
@@ -65,6 +81,11 @@ small_floor longest-plan && fill "$dir/longest-plan/plan.work" Z 65536
 prints settle longest-plan 'refused file 23 43'
 small_floor plan-too-long && fill "$dir/plan-too-long/plan.work" Z 65537
 prints settle plan-too-long 'unread'
+
+# a hall that is not read: its fault on its own line, and nothing behind the error
+"$top/run" halls >/dev/null
+halls_cut hall.list 20 'hall.list: refused map 22 20'
+halls_cut hall.grid 50 'hall.grid: refused map 3 50'
 
 echo "$count outputs, $differ differ"
 [ "$count" -gt 0 ] && [ "$differ" -eq 0 ]
